@@ -11,9 +11,9 @@ use Rattle.ipc_lock.specs.declared.ends.PostEnd.{PostEnd}
 use Rattle.ipc_lock.specs.declared.events.Event.{Event}
 use Rattle.ipc_log.specs.Views.{Known}
 use Rattle.ipc_server.specs.declared.noted.NotedEnd.{NotedEnd}
-use Rattle.ipc_server.specs.Doing.{AsksBy, BreaksBy, DidAll, Does, IsAtHome, IsNew, PostsBy, PostsIfLeft, PostsWith, ReadsBy, ServesOne, begun}
+use Rattle.ipc_server.specs.Doing.{AsksBy, BreaksBy, DidAll, Does, DoesSome, IsAtHome, IsNew, PostsBy, PostsIfLeft, PostsWith, ReadsBy, ServesOne, begun}
 use Rattle.ipc_session.specs.Keeping.{call_of}
-use Rattle.ipc_session.specs.Sessions.{AsksFor, deed_of, deeds_left}
+use Rattle.ipc_session.specs.Sessions.{AsksFor, MayAskFor, deed_of, deeds_left}
 use Rattle.ipc_session.specs.declared.deed.Deed.{Deed}
 use Rattle.ipc_session.specs.declared.deed.Deed.TheVariants as deed
 use Rattle.ipc_server.proofs.HomeLemmas.{HasBox, did_keep, is_found}
@@ -116,35 +116,50 @@ reads_nothing P came came_now end deeds new same is = record {
   home = at_home end;
 }
 
--- it had a box, or none
--- the port came, as the box was there
-hands_some : (C P : Type 0) {Q : Type 0} (place : ℕ) (own : Known Event) (port : Option Q) (written : Q → Option (List ℕ)) → HasBox place own.number own.mine
-    → IfSome port (λ p. HandsOut C P place own (written p)) → IfNone port (FindsNone C P place own)
-    → (out : Option (List ℕ)) × (option_map written port ≡ Some out) × HandsOut C P place own out
-hands_some C P place own None written has hands none = absurd (is_found C P place own has none)
-hands_some C P place own (Some port) written has hands none = (written port, refl, hands)
+-- of one that had a box: the port came, as the box was there
+pub hands_some : (C P : Type 0) {Q : Type 0} (place : ℕ) (own : Known Event) (port : Option Q) (written : Q → Option (List ℕ)) (roll roll_now : List Event)
+    → HasBox place own.number own.mine
+    → IfSome port (λ p. HandsOut C P place own roll roll_now (written p)) → IfNone port (FindsNone C P place own)
+    → (out : Option (List ℕ)) × (option_map written port ≡ Some out) × HandsOut C P place own roll roll_now out
+hands_some C P place own None written roll roll_now has hands none = absurd (is_found C P place own has none)
+hands_some C P place own (Some port) written roll roll_now has hands none = (written port, refl, hands)
 
-pub serves_one : {C : Type 0} (P : Type 0) {Q : Type 0} (space : ℕ) (came came_now : Option (List ℕ)) (end left : PostEnd C) (deeds : List Deed) (port : Option Q)
-    (written : Q → Option (List ℕ)) → end.space ≡ space → ReadsBy P came came_now end left deeds
-    → IfSome port (λ p. HandsOut C P left.place left.own (written p)) → IfNone port (FindsNone C P left.place left.own)
-    → ServesOne C P space came came_now deeds (option_map written port)
-serves_one {C} P space came came_now end left deeds port written is reads hands none =
-    let handed = hands_some C P left.place left.own port written (did_keep P deeds left reads.did) hands none in
-    record {
-      asks = reads.asks;
-      does = inl (record {
-        end = begun reads.did.first left;
-        left = left;
-        connects = reads.did.connects;
-        space_is = reads.home.space ∙ is;
-        begins = refl;
-        does = reads.did.does;
-        out = handed.0;
-        sent_is = handed.1;
-        hands = handed.2;
-      });
-    }
+abbrev pub does_some : {C : Type 0} (P : Type 0) (left : PostEnd C) (deeds : List Deed) (sent : Option (Option (List ℕ))) (out : Option (List ℕ)) (roll roll_now : List Event)
+    → DidAll P deeds left → sent ≡ Some out → HandsOut C P left.place left.own roll roll_now out → DoesSome C P left.space deeds sent
+does_some P left deeds sent out roll roll_now did is hands = record {
+  end = begun did.first left;
+  left = left;
+  connects = did.connects;
+  space_is = refl;
+  begins = refl;
+  does = did.does;
+  out = out;
+  sent_is = is;
+  roll = roll;
+  roll_now = roll_now;
+  hands = hands;
+}
 
+pub serves_one : {C : Type 0} (P : Type 0) {Q : Type 0} (came came_now : Option (List ℕ)) (left : PostEnd C) (deeds : List Deed) (port : Option Q)
+    (written : Q → Option (List ℕ)) (roll roll_now : List Event) → MayAskFor came came_now (map call_of deeds) → DidAll P deeds left
+    → IfSome port (λ p. HandsOut C P left.place left.own roll roll_now (written p)) → IfNone port (FindsNone C P left.place left.own)
+    → ServesOne C P left.space came came_now deeds (option_map written port)
+serves_one {C} P came came_now left deeds port written roll roll_now asks did hands none =
+    let handed = hands_some C P left.place left.own port written roll roll_now (did_keep P deeds left did) hands none in
+    record { asks = asks; does = inl (does_some P left deeds (option_map written port) handed.0 roll roll_now did handed.1 handed.2) }
+
+-- the same, as the space and the port were at first
+pub serves_as : (C P : Type 0) (space first_space : ℕ) (came first_came came_now : Option (List ℕ)) (deeds : List Deed) (sent : Option (Option (List ℕ)))
+    → space ≡ first_space → came ≡ first_came → ServesOne C P space came came_now deeds sent → ServesOne C P first_space first_came came_now deeds sent
+serves_as C P space first_space came first_came came_now deeds sent same_space same_came h =
+    subst (λ (n : ℕ). ServesOne C P n first_came came_now deeds sent) same_space
+    (subst (λ (c : Option (List ℕ)). ServesOne C P space c came_now deeds sent) same_came h)
+
+pub asks_as : (came first_came came_now : Option (List ℕ)) (deeds : List Deed) → came ≡ first_came → MayAskFor first_came came_now (map call_of deeds)
+    → MayAskFor came came_now (map call_of deeds)
+asks_as came first_came came_now deeds same h = subst (λ (c : Option (List ℕ)). MayAskFor c came_now (map call_of deeds)) (sym same) h
+
+-- of one that had none
 pub serves_none : (C P : Type 0) (space : ℕ) (came came_now : Option (List ℕ)) (deeds : List Deed) (sent : Option (Option (List ℕ))) → came_now ≡ came → deeds ≡ []
     → ServesOne C P space came came_now deeds sent
 serves_none C P space came came_now deeds sent same none = record { asks = inr (same, ap (map call_of) none); does = inr none }

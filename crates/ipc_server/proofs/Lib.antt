@@ -4,3 +4,4 @@ pub mod NotedLemmas
 pub mod TraceLemmas
 pub mod WorkLemmas
 pub mod HomeLemmas
+pub mod ServicesLemmas

@@ -100,7 +100,9 @@ pub record DoesSome (C P : Type 0) (space : ℕ) (deeds : List Deed) (sent : Opt
   pub does : Does P end deeds left
   pub out : Option (List ℕ)
   pub sent_is : sent ≡ Some out
-  pub hands : HandsOut C P left.place left.own out
+  pub roll : List Event
+  pub roll_now : List Event
+  pub hands : HandsOut C P left.place left.own roll roll_now out
 
 -- a connection to a space is served: what came meanwhile asked for these deeds, all of them and no
 -- others, and each was done for it, and what was sent meanwhile is what it was given; or it got no

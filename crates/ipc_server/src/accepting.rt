@@ -2,13 +2,16 @@
 //! ticker and the mover.
 ghost use Rattle.std.specs.Prelude.{◌≡◌, [], Some, option_map};
 ghost use Rattle.ipc_server.specs.Doing.{ServesOne};
+ghost use Rattle.ipc_server.specs.Services.{ServesAll};
 
 use crate::control::answer_askers;
 use crate::counters::counters_now;
 use crate::host::Host;
 use crate::paths::Listener;
+use crate::served::Served;
 use crate::server::Server;
-use crate::serving::{Ports, Served, serve_connection, start_worker};
+use crate::services::{AllServed, Services};
+use crate::serving::{Ports, serve_connection, start_worker};
 use crate::socket::{Guest, SocketGate};
 use crate::working::{Alarm, OverGate, Worker};
 use ipc_host::{Admission, EagerStream, Notice, SocketPort};
@@ -19,7 +22,7 @@ use std::os::unix::net::UnixStream;
 use std::rt::Clock;
 use std::sync::atomic::{AtomicBool, Ordering};
 use std::sync::ledger::Ledger;
-use std::sync::{Arc, Wait};
+use std::sync::{Arc, Mutex, Wait};
 use std::thread::{Scope, Threads};
 use std::time::Duration;
 use std::{io, thread};
@@ -34,23 +37,33 @@ const LOG_TURN: u64 = 60;
 const ROOM_TURN: u64 = 100;
 
 /// Serves all paths until each has had its connections and these have ended, or the service was
-/// stopped. False where a worker could not be started.
+/// stopped. False where a worker could not be started. The connections that were served come back,
+/// all of one log: each that the log knows is among them, once, and was served as it says.
 pub fn serve_all<C: Naming + Send, T: Ledger + Send, R>(
     server: &Server<'_, C, T, SocketPort, R>,
     host: &Host,
-) -> bool
+    services: Services<C, SocketPort>,
+) -> (bool, AllServed<C, SocketPort>)
 where
     R: Threads + Wait + Clock + Eprint + Sync,
+    ensures { ServesAll C SocketPort result.1.log result.1.all }
 {
     let over = AtomicBool::new(false);
     let over = &over;
-    thread::scope(thread::scope_env(), server.rt, |scope| {
-        let started = start_others(scope, server, host, over) && accept_all(server, host);
-        host.finish(server.rt);
-        over.store(true, Ordering::SeqCst);
-        server.shared.end_work(server.rt);
-        started
-    })
+    thread::scope(
+        thread::scope_env(),
+        server.rt,
+        |scope|
+            ensures { ServesAll C SocketPort result.1.log result.1.all }
+        {
+            let services = Mutex::new(services);
+            let started = start_others(scope, server, host, over)
+                && accept_all(server, host, &services);
+            host.finish(server.rt);
+            over.store(true, Ordering::SeqCst);
+            (started, services.into_inner().end_work(server))
+        },
+    )
 }
 
 /// Starts the workers that no space has: the ticker, the mover, and those of signals, of counters
@@ -131,13 +144,14 @@ fn move_blocks<C: Naming, T: Ledger, R: Wait + Clock>(server: &Server<'_, C, T, 
 fn accept_all<C: Naming + Send, T: Ledger + Send, R>(
     server: &Server<'_, C, T, SocketPort, R>,
     host: &Host,
+    services: &Mutex<Services<C, SocketPort>>,
 ) -> bool
 where
     R: Threads + Wait + Clock + Eprint + Sync,
 {
     thread::scope(thread::scope_env(), server.rt, |scope| {
         for listener in &host.listeners {
-            let started = start_worker(scope, move || accept(server, host, listener));
+            let started = start_worker(scope, move || accept(server, host, services, listener));
             if started.is_err() {
                 host.stop(server.rt);
                 return false;
@@ -153,6 +167,7 @@ where
 fn accept<C: Naming + Send, T: Ledger + Send, R>(
     server: &Server<'_, C, T, SocketPort, R>,
     host: &Host,
+    services: &Mutex<Services<C, SocketPort>>,
     listener: &Listener,
 )
 where
@@ -172,7 +187,7 @@ where
                     if let Some((ticket, stream)) = admit(server, host, space, stream) {
                         let started = start_worker(
                             scope,
-                            move || serve_guest(server, host, space, ticket, stream),
+                            move || serve_guest(server, host, services, space, ticket, stream),
                         );
                         if let Err(error) = started {
                             let_go(rt, host, ticket, error);
@@ -264,6 +279,7 @@ fn miss<C: Naming, T: Ledger, R: Wait + Clock + Eprint>(
 fn serve_guest<C, T, R>(
     server: &Server<'_, C, T, SocketPort, R>,
     host: &Host,
+    services: &Mutex<Services<C, SocketPort>>,
     space: u64,
     ticket: u64,
     stream: Arc<UnixStream>,
@@ -282,7 +298,7 @@ where
         soon: &soon,
     };
     if let Ok(kept) = Arc::try_clone(&stream) {
-        let _ = serve_stream(server, &guest, &stream, SocketPort::new(kept));
+        let _ = serve_stream(server, services, &guest, &stream, SocketPort::new(kept));
     }
     drop(stream);
     host.guests.leave(server.rt, ticket);
@@ -293,6 +309,7 @@ where
 /// was given.
 fn serve_stream<'a, C, T, R>(
     server: &Server<'_, C, T, SocketPort, R>,
+    services: &Mutex<Services<C, SocketPort>>,
     guest: &Guest<'a, R>,
     stream: &'a UnixStream,
     writer: SocketPort,
@@ -314,5 +331,5 @@ where
         writes: SocketGate::new(stream, guest),
         kernel_port: SocketGate::new(stream, guest),
     };
-    serve_connection(server, ports)
+    serve_connection(server, services, ports)
 }

@@ -3,44 +3,25 @@ use std::alloc::AllocError;
 use std::io::ErrorKind;
 use std::{fmt, io};
 
-/// How the server ended.
+/// Why the server failed: status 1.
 #[derive(Drop)]
 pub enum Exit {
-    /// All connections have ended: status 0.
-    Closed,
-    /// All connections have ended, and the trace had stopped before, which was told then: status 1.
-    Untraced,
-    /// A path cannot be bound, and why: status 1.
+    /// A path cannot be bound, and why.
     CannotListen(String, Obstacle),
-    /// The trace that is required cannot be written: status 1.
+    /// The trace that is required cannot be written.
     TraceRequired,
-    /// A worker cannot be started: status 1.
+    /// A worker cannot be started.
     NoWorker,
-    /// The program itself got no memory: status 1.
+    /// The program itself got no memory.
     NoMemory,
-    /// Standard output or the clock failed: status 1.
+    /// Standard output or the clock failed.
     DeviceFailed,
-    /// The descriptor of `--ready-fd` is not open for writing: status 1.
+    /// The descriptor of `--ready-fd` is not open for writing.
     NoReadyDescriptor(u16),
-    /// There is no room for the two connections of the program's own client: status 1.
+    /// There is no room for the two connections of the program's own client.
     NoRoomForProbe,
-    /// The client of the program's own did not get its message: status 1.
+    /// The client of the program's own did not get its message.
     ProbeFailed,
-}
-
-impl Exit {
-    /// The exit status of the program.
-    pub fn status(&self) -> u8 {
-        match self {
-            Exit::Closed => 0,
-            _ => 1,
-        }
-    }
-
-    /// Whether it served to the end: then it says on standard output that it closed.
-    pub fn is_well(&self) -> bool {
-        matches!(self, Exit::Closed | Exit::Untraced)
-    }
 }
 
 impl From<AllocError> for Exit {
@@ -62,8 +43,6 @@ impl From<io::Error> for Exit {
 impl fmt::Display for Exit {
     fn fmt<W: fmt::Write>(&self, f: &mut fmt::Formatter<W>) -> fmt::Result {
         match self {
-            Exit::Closed => write!(f, "l4d: closed"),
-            Exit::Untraced => write!(f, "l4d: closed, and the trace had stopped"),
             Exit::CannotListen(path, obstacle) => {
                 write!(f, "l4d: cannot listen on {path}\n  {obstacle}")
             }

@@ -2,12 +2,14 @@
 #![tactic(auto)]
 
 ghost use Rattle.std.specs.Prelude.{◌≡◌, ◌^◌};
+ghost use Rattle.ipc_server.specs.Ending.{EndsServed};
 
 mod accepting;
 mod began;
 mod caller;
 mod control;
 mod counters;
+mod ending;
 mod exit;
 mod followers;
 mod following;
@@ -19,8 +21,10 @@ mod parts;
 mod paths;
 mod probe;
 mod ready;
+mod served;
 mod server;
 mod service;
+mod services;
 mod serving;
 mod shared_blocks;
 mod socket;
@@ -32,6 +36,7 @@ mod traced;
 mod tracing;
 mod working;
 
+use ending::Ending;
 use exit::Exit;
 use followers::Followers;
 use host::{Bound, Host};
@@ -43,6 +48,7 @@ use meter::Meter;
 use parts::Parts;
 use paths::{Door, Listener, control, listen, remove, remove_door};
 use server::Server;
+use services::Services;
 use std::alloc::Global;
 use std::fs::File;
 use std::marker::Brand;
@@ -70,6 +76,9 @@ const PROBE_CONNECTIONS: u64 = 2;
 
 /// How many descriptors standard input, output and error take, a trace, and files that are read.
 const OTHER_DESCRIPTORS: u64 = 8;
+
+/// The status of a server that did not end as it was asked to.
+const FAILURE: u8 = 1;
 
 /// How many microseconds a second has.
 const SECOND: u64 = 1_000_000;
@@ -136,11 +145,13 @@ where
         return ended(rt, &Exit::NoMemory);
     };
     let (calls, takes) = (Blank::new(PARTS), Blank::new(PARTS));
-    let exit = start::<Brand, Brand, _>(rt, alloc, options, readiness, calls, takes, log);
-    ended(rt, &exit)
+    let ending = start::<Brand, Brand, _>(rt, alloc, options, readiness, calls, takes, log);
+    status_of(rt, &ending)
 }
 
-/// Makes the kernel, and serves over it.
+/// Makes the kernel, and serves over it. Where it ends well all connections that it had were served
+/// in one log: each got what the log says that it was given, and the log says of each what came
+/// through its socket, and of no other.
 fn start<C: Naming + Send, T: Ledger + Send, R>(
     rt: &R,
     alloc: Global,
@@ -149,7 +160,7 @@ fn start<C: Naming + Send, T: Ledger + Send, R>(
     calls: Blank,
     takes: Blank,
     log: BlankLog,
-) -> Exit
+) -> Ending<C>
 where
     R: Threads
         + Wait
@@ -165,14 +176,18 @@ where
     requires takes_name { takes.name ≡ T.name }
     requires takes_parts { (takes.parts ≡ T.parts) × (takes.parts ≡ 2 ^ 63) }
     requires log_tables { log ≡ C.tables }
+    ensures { EndsServed result }
 {
     let limits = Limits {
         entries: MAX_ENTRIES,
         calls: MAX_CALLS,
     };
     match SharedKernel::<C, T, SocketPort>::new(alloc, limits, calls, takes, log) {
-        Ok(shared) => start_over(rt, alloc, options, readiness, &shared),
-        Err(_) => Exit::NoMemory,
+        Ok((shared, roll)) => {
+            let services = Services::new(roll);
+            start_over(rt, alloc, options, readiness, &shared, services).told()
+        }
+        Err(_) => Ending::Failed(Exit::NoMemory),
     }
 }
 
@@ -183,7 +198,8 @@ fn start_over<C: Naming + Send, T: Ledger + Send, R>(
     options: &ServerOptions<'_>,
     readiness: Readiness,
     shared: &SharedKernel<C, T, SocketPort>,
-) -> Exit
+    services: Services<C, SocketPort>,
+) -> Ending<C>
 where
     R: Threads
         + Wait
@@ -197,9 +213,10 @@ where
 {
     match ServerClock::start(rt) {
         Ok(clock) => {
-            listen_and_serve(&Server::new(rt, alloc, shared, clock), options, readiness)
+            let server = Server::new(rt, alloc, shared, clock);
+            listen_and_serve(&server, options, readiness, services)
         }
-        Err(error) => Exit::from(error),
+        Err(error) => Ending::Failed(Exit::from(error)),
     }
 }
 
@@ -208,7 +225,8 @@ fn listen_and_serve<C: Naming + Send, T: Ledger + Send, R>(
     server: &Server<'_, C, T, SocketPort, R>,
     options: &ServerOptions<'_>,
     readiness: Readiness,
-) -> Exit
+    services: Services<C, SocketPort>,
+) -> Ending<C>
 where
     R: Threads
         + Wait
@@ -222,14 +240,14 @@ where
 {
     let most = most_connections(server.rt, server.alloc, options);
     if options.probe && most.min(u64::from(options.connections)) < PROBE_CONNECTIONS {
-        return Exit::NoRoomForProbe;
+        return Ending::Failed(Exit::NoRoomForProbe);
     }
     match bind_paths(server, options) {
         Ok((listeners, door)) => {
             let host = host_of(server, options, most, listeners, door, readiness);
-            serve_host(server, &host, options)
+            serve_host(server, &host, options, services)
         }
-        Err(exit) => exit,
+        Err(exit) => Ending::Failed(exit),
     }
 }
 
@@ -311,7 +329,8 @@ fn serve_host<C: Naming + Send, T: Ledger + Send, R>(
     server: &Server<'_, C, T, SocketPort, R>,
     host: &Host,
     options: &ServerOptions<'_>,
-) -> Exit
+    services: Services<C, SocketPort>,
+) -> Ending<C>
 where
     R: Threads
         + Wait
@@ -323,22 +342,22 @@ where
         + Eprint
         + Sync,
 {
-    let exit = serve_as_asked(server, host, options);
+    let ending = serve_as_asked(server, host, options, services);
     remove(server.rt, host.listeners.as_slice());
     if let Some(door) = &host.control {
         remove_door(server.rt, door);
     }
-    closed(server.rt, exit)
+    closed(server.rt, ending)
 }
 
 /// Says that the server closed, where it ended well, and answers how it ended then.
-fn closed<R: Print>(rt: &R, exit: Exit) -> Exit {
-    if !exit.is_well() {
-        return exit;
+fn closed<C: Naming, R: Print>(rt: &R, ending: Ending<C>) -> Ending<C> {
+    if let Ending::Failed(_) = &ending {
+        return ending;
     }
     match println!(rt; "closed") {
-        Ok(()) => exit,
-        Err(error) => Exit::from(error),
+        Ok(()) => ending,
+        Err(error) => Ending::Failed(Exit::from(error)),
     }
 }
 
@@ -354,10 +373,17 @@ fn within(options: &ServerOptions<'_>) -> u64 {
     u64::from(options.hello_within) * SECOND
 }
 
-/// Says on standard error why the server ended, where it did not end well, and answers its status.
-pub(crate) fn ended<R: Eprint>(rt: &R, exit: &Exit) -> io::Result<ExitCode> {
-    if !exit.is_well() {
-        rt.eprintln(exit)?;
+/// The status of the program, which says why it failed where it did.
+fn status_of<C: Naming, R: Eprint>(rt: &R, ending: &Ending<C>) -> io::Result<ExitCode> {
+    match ending {
+        Ending::Closed(_) => Ok(ExitCode::from(0)),
+        Ending::Untraced(_) => Ok(ExitCode::from(FAILURE)),
+        Ending::Failed(exit) => ended(rt, exit),
     }
-    Ok(ExitCode::from(exit.status()))
+}
+
+/// Says on standard error why the server failed, and answers its status.
+pub(crate) fn ended<R: Eprint>(rt: &R, exit: &Exit) -> io::Result<ExitCode> {
+    rt.eprintln(exit)?;
+    Ok(ExitCode::from(FAILURE))
 }

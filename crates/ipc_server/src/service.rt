@@ -7,6 +7,7 @@ use crate::paths::{Listener, path_of};
 use crate::probe::probe;
 use crate::ready::tell_ready;
 use crate::server::Server;
+use crate::services::{AllServed, Services};
 use crate::serving::start_worker;
 use ipc_host::SocketPort;
 use ipc_lock::Naming;
@@ -20,12 +21,14 @@ use std::sync::ledger::Ledger;
 use std::thread;
 use std::thread::Threads;
 
-/// Serves the paths, and closes the kernel once all workers but the trace's were joined.
+/// Serves the paths, and closes the kernel once all workers but the trace's were joined. Answers
+/// all connections that were served, where it ended well.
 pub(crate) fn serve_and_close<C: Naming + Send, T: Ledger + Send, R>(
     server: &Server<'_, C, T, SocketPort, R>,
     host: &Host,
     options: &ServerOptions<'_>,
-) -> Result<(), Exit>
+    services: Services<C, SocketPort>,
+) -> Result<AllServed<C, SocketPort>, Exit>
 where
     R: Threads
         + Wait
@@ -35,7 +38,7 @@ where
         + Eprint
         + Sync,
 {
-    let served = serve(server, host, options);
+    let served = serve(server, host, options, services);
     server.shared.close(server.rt);
     served
 }
@@ -46,7 +49,8 @@ fn serve<C: Naming + Send, T: Ledger + Send, R>(
     server: &Server<'_, C, T, SocketPort, R>,
     host: &Host,
     options: &ServerOptions<'_>,
-) -> Result<(), Exit>
+    services: Services<C, SocketPort>,
+) -> Result<AllServed<C, SocketPort>, Exit>
 where
     R: Threads
         + Wait
@@ -63,9 +67,10 @@ where
         tell_paths(rt, &host.listeners);
     }
     if options.probe {
-        serve_with_client(server, host, options)
+        serve_with_client(server, host, options, services)
     } else {
-        served(serve_all(server, host))
+        let (started, all) = serve_all(server, host, services);
+        served(started, all)
     }
 }
 
@@ -83,7 +88,8 @@ fn serve_with_client<C: Naming + Send, T: Ledger + Send, R>(
     server: &Server<'_, C, T, SocketPort, R>,
     host: &Host,
     options: &ServerOptions<'_>,
-) -> Result<(), Exit>
+    services: Services<C, SocketPort>,
+) -> Result<AllServed<C, SocketPort>, Exit>
 where
     R: Threads
         + Wait
@@ -94,31 +100,43 @@ where
         + Sync,
 {
     let path = path_of(server.alloc, options.dir, 1)?;
-    let (started, is_told) = serve_probed(server, host, path.as_str());
+    let (all, is_told) = serve_probed(server, host, path.as_str(), services);
     drop(path);
-    probed(started, is_told)
+    probed(all, is_told)
 }
 
 /// What came of serving beside the program's own client.
-fn probed(started: bool, is_told: bool) -> Result<(), Exit> {
-    match (started, is_told) {
-        (false, _) => Err(Exit::NoWorker),
-        (true, false) => Err(Exit::ProbeFailed),
-        (true, true) => Ok(()),
+fn probed<C: Naming>(
+    all: Option<AllServed<C, SocketPort>>,
+    is_told: bool,
+) -> Result<AllServed<C, SocketPort>, Exit> {
+    match all {
+        Some(all) if is_told => Ok(all),
+        Some(_) => Err(Exit::ProbeFailed),
+        None => Err(Exit::NoWorker),
     }
 }
 
-fn served(started: bool) -> Result<(), Exit> {
-    if started { Ok(()) } else { Err(Exit::NoWorker) }
+fn served<C: Naming>(
+    started: bool,
+    all: AllServed<C, SocketPort>,
+) -> Result<AllServed<C, SocketPort>, Exit> {
+    if started {
+        Ok(all)
+    } else {
+        Err(Exit::NoWorker)
+    }
 }
 
-/// Serves beside a client that sends one word and prints it as soon as it has come. Answers whether
-/// the workers could be started, and whether the word was printed.
+/// Serves beside a client that sends one word and prints it as soon as it has come. Answers all
+/// connections that were served, where the workers could be started, and whether the word was
+/// printed.
 fn serve_probed<C: Naming + Send, T: Ledger + Send, R>(
     server: &Server<'_, C, T, SocketPort, R>,
     host: &Host,
     path: &str,
-) -> (bool, bool)
+    services: Services<C, SocketPort>,
+) -> (Option<AllServed<C, SocketPort>>, bool)
 where
     R: Threads
         + Wait
@@ -132,11 +150,15 @@ where
     let alloc = server.alloc;
     let is_told = AtomicBool::new(false);
     let told = &is_told;
-    let started = thread::scope(thread::scope_env(), rt, |scope| {
+    let all = thread::scope(thread::scope_env(), rt, |scope| {
         let client = start_worker(scope, move || tell_probe(rt, alloc, path, told));
-        client.is_ok() && serve_all(server, host)
+        if client.is_err() {
+            return None;
+        }
+        let (started, all) = serve_all(server, host, services);
+        started.then_some(all)
     });
-    (started, is_told.load(Ordering::SeqCst))
+    (all, is_told.load(Ordering::SeqCst))
 }
 
 /// Prints the word that the program's own client gets, and notes that it was printed.

@@ -9,16 +9,18 @@ ghost use Rattle.ipc_session.specs.Sessions.{AsksFor};
 
 use crate::caller::Caller;
 use crate::noted::NotedEnd;
+use crate::served::Served;
 use crate::server::Server;
+use crate::services::{Services, note_of};
 use ipc_base::{Past, PortRead};
 use ipc_connection::{Patience, PenPort};
 use ipc_host::Notice;
 use ipc_lock::{Loaded, Naming, PostEnd, TakeEnd};
-use ipc_session::{Deed, Gate, read_loop};
+use ipc_session::{Gate, read_loop};
 use ipc_words::ThreadId;
 use std::rt::Clock;
-use std::sync::Wait;
 use std::sync::ledger::Ledger;
+use std::sync::{Mutex, Wait};
 use std::thread::{Scope, Threads};
 use std::{io, thread};
 
@@ -83,23 +85,15 @@ struct Reading<I: PortRead, G: Gate + Link> {
     kernel_port: G,
 }
 
-/// What was made of a connection: the port that was read, and what was asked for it, with the
-/// answers, in order. Proofs alone know what was asked.
-#[derive(Drop)]
-pub struct Served<I: PortRead> {
-    /// The port that was read.
-    pub reader: I,
-    /// What was asked of the kernel.
-    pub asked: Past<Deed>,
-}
-
 /// Serves one connection to its end: reads in this thread, and in one that it starts writes what no
 /// other thread could. Where that cannot be started, or there is no memory for a box, the link is
 /// shut down. What came asked for what was asked, and each of that was done by the connection's own
 /// end, of which the one log of the kernel says nothing else. The port to which was written comes
-/// back where the connection had a box: what went out is what the log says that it was given.
+/// back where the connection had a box: what went out is what the log says that it was given. It is
+/// then among those that were served.
 pub fn serve_connection<C, T, P, R, I, G>(
     server: &Server<'_, C, T, P, R>,
+    services: &Mutex<Services<C, P>>,
     ports: Ports<P, I, G>,
 ) -> (Served<I>, Option<P>)
 where
@@ -121,6 +115,7 @@ where
         writes,
         kernel_port,
     } = ports;
+    let note = note_of(&reader);
     let reading = Reading {
         reader,
         reads,
@@ -129,7 +124,9 @@ where
     match server.shared.connect(server.rt, writer, space) {
         Ok((posts, takes)) => {
             let (posts, served) = serve_both_ways(server, posts, takes, reading, writes);
-            let port = server.shared.release(server.rt, posts);
+            let port = services
+                .lock(server.rt)
+                .check_in(server, &note, posts, &served);
             (served, port)
         }
         Err(_) => (turn_away(reading), None),

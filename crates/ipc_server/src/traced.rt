@@ -2,10 +2,12 @@
 ghost use Rattle.std.specs.Prelude.{◌≡◌, ◌<◌};
 
 use crate::began::start_of;
+use crate::ending::{Ending, ending_of};
 use crate::exit::Exit;
 use crate::host::Host;
 use crate::server::Server;
 use crate::service::serve_and_close;
+use crate::services::{AllServed, Services};
 use crate::trace_disk::TraceDisk;
 use crate::trace_fault::TraceFault;
 use crate::trace_files::TraceFiles;
@@ -28,7 +30,8 @@ pub(crate) fn serve_as_asked<C: Naming + Send, T: Ledger + Send, R>(
     server: &Server<'_, C, T, SocketPort, R>,
     host: &Host,
     options: &ServerOptions<'_>,
-) -> Exit
+    services: Services<C, SocketPort>,
+) -> Ending<C>
 where
     R: Threads
         + Wait
@@ -41,9 +44,9 @@ where
         + Sync,
 {
     if options.trace.is_some() {
-        serve_traced::<C, T, Brand, R>(server, host, options, Blank::new(1))
+        serve_traced::<C, T, Brand, R>(server, host, options, Blank::new(1), services)
     } else {
-        serve_untraced(server, host, options, true)
+        serve_untraced(server, host, options, true, services)
     }
 }
 
@@ -53,7 +56,8 @@ fn serve_untraced<C: Naming + Send, T: Ledger + Send, R>(
     host: &Host,
     options: &ServerOptions<'_>,
     is_whole: bool,
-) -> Exit
+    services: Services<C, SocketPort>,
+) -> Ending<C>
 where
     R: Threads
         + Wait
@@ -65,7 +69,7 @@ where
 {
     server.keep_nothing();
     host.followers.close(server.rt);
-    exit_of(serve_and_close(server, host, options), is_whole)
+    ending_of(serve_and_close(server, host, options, services), is_whole)
 }
 
 /// Opens the file of the trace, and serves the paths while a worker writes it. The count of the
@@ -75,7 +79,8 @@ fn serve_traced<C: Naming + Send, T: Ledger + Send, L: Ledger + Send, R>(
     host: &Host,
     options: &ServerOptions<'_>,
     writes: Blank,
-) -> Exit
+    services: Services<C, SocketPort>,
+) -> Ending<C>
 where
     R: Threads
         + Wait
@@ -91,10 +96,10 @@ where
 {
     let files = TraceFiles::new(options, &host.meter, start_of(server));
     match files.begin(server.rt, server.alloc, Failures::<L>::new(writes)) {
-        Ok(trace) => serve_beside(server, host, options, files, trace),
+        Ok(trace) => serve_beside(server, host, options, files, trace, services),
         Err(fault) => {
             let fault = fault.with_reason(host.meter.reason());
-            serve_without(server, host, options, fault)
+            serve_without(server, host, options, fault, services)
         }
     }
 }
@@ -105,7 +110,8 @@ fn serve_without<C: Naming + Send, T: Ledger + Send, R>(
     host: &Host,
     options: &ServerOptions<'_>,
     fault: TraceFault,
-) -> Exit
+    services: Services<C, SocketPort>,
+) -> Ending<C>
 where
     R: Threads
         + Wait
@@ -118,9 +124,9 @@ where
     stopped(server.rt, host, fault);
     if options.trace_required {
         server.shared.close(server.rt);
-        return Exit::TraceRequired;
+        return Ending::Failed(Exit::TraceRequired);
     }
-    serve_untraced(server, host, options, false)
+    serve_untraced(server, host, options, false, services)
 }
 
 /// Serves the paths while a worker writes the trace. Where the worker cannot be started the trace
@@ -131,7 +137,8 @@ fn serve_beside<C: Naming + Send, T: Ledger + Send, R, P: PortWrite + Drop + Sen
     options: &ServerOptions<'_>,
     files: TraceFiles<'_>,
     trace: Trace<P>,
-) -> Exit
+    services: Services<C, SocketPort>,
+) -> Ending<C>
 where
     R: Threads
         + Wait
@@ -145,18 +152,22 @@ where
     let (is_whole, served) = thread::join(
         server.rt,
         move || write_trace(server, host, files, options.trace_required, trace),
-        move || serve_and_close(server, host, options),
+        move || serve_and_close(server, host, options, services),
     );
-    exit_beside(served, is_whole, options.trace_required)
+    ending_beside(served, is_whole, options.trace_required)
 }
 
 /// How the server ended beside a trace, which may be required.
-fn exit_beside(served: Result<(), Exit>, is_whole: bool, is_required: bool) -> Exit {
+fn ending_beside<C: Naming>(
+    served: Result<AllServed<C, SocketPort>, Exit>,
+    is_whole: bool,
+    is_required: bool,
+) -> Ending<C> {
     if is_required && !is_whole {
         drop(served);
-        return Exit::TraceRequired;
+        return Ending::Failed(Exit::TraceRequired);
     }
-    exit_of(served, is_whole)
+    ending_of(served, is_whole)
 }
 
 /// Writes the trace to its end, and tells where it stopped before. False where it did; where the
@@ -193,14 +204,4 @@ fn stopped<R: Wait + Eprint>(rt: &R, host: &Host, fault: TraceFault) {
     host.trace_stop.note(rt, fault);
     // where standard error fails too, the exit status still says it
     let _ = rt.eprintln(&fault);
-}
-
-/// How the server ended, by what came of serving and whether its trace is whole or was not asked
-/// for.
-fn exit_of(served: Result<(), Exit>, is_whole: bool) -> Exit {
-    match served {
-        Ok(()) if is_whole => Exit::Closed,
-        Ok(()) => Exit::Untraced,
-        Err(exit) => exit,
-    }
 }

@@ -1,0 +1,50 @@
+//! How the server ended.
+ghost use Rattle.ipc_server.specs.Ending.{EndsServed};
+
+use crate::exit::Exit;
+use crate::services::AllServed;
+use ipc_host::SocketPort;
+use ipc_lock::Naming;
+
+/// How the server ended. Where it ended well it served all connections that it had.
+#[derive(Drop)]
+pub enum Ending<C: Naming> {
+    /// All connections have ended: status 0.
+    Closed(AllServed<C, SocketPort>),
+    /// All connections have ended, and the trace had stopped before, which was told then: status 1.
+    Untraced(AllServed<C, SocketPort>),
+    /// Something failed: status 1.
+    Failed(Exit),
+}
+
+/// How the server ended, by what came of serving and whether its trace is whole or was not asked
+/// for.
+pub(crate) fn ending_of<C: Naming>(
+    served: Result<AllServed<C, SocketPort>, Exit>,
+    is_whole: bool,
+) -> Ending<C> {
+    match served {
+        Ok(all) if is_whole => Ending::Closed(all),
+        Ok(all) => Ending::Untraced(all),
+        Err(exit) => Ending::Failed(exit),
+    }
+}
+
+impl<C: Naming> Ending<C> {
+    /// The same, where contracts see that all connections were served in one log.
+    pub(crate) fn told(self) -> Ending<C>
+        ensures { EndsServed result }
+    {
+        match self {
+            Ending::Closed(all) => {
+                all.are_one();
+                Ending::Closed(all)
+            }
+            Ending::Untraced(all) => {
+                all.are_one();
+                Ending::Untraced(all)
+            }
+            Ending::Failed(exit) => Ending::Failed(exit),
+        }
+    }
+}

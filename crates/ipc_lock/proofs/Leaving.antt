@@ -52,11 +52,12 @@ ends_then number event.Parted is = absurd (true≢false (sym is))
 
 ends_in : (number : ℕ) (log : List Event) → list_any (is_release number) log ≡ true → Contains (numbers_of ended_by log) number
 ends_in number [] is = absurd (true≢false (sym is))
-ends_in number (next ∷ log) is = go (is_release number next) refl is
+ends_in number (next ∷ log) is = go (is_release number next) refl is (ends_in number log)
   where
-    go : (b : Bool) → is_release number next ≡ b → b || list_any (is_release number) log ≡ true → Contains (numbers_of ended_by (next ∷ log)) number
-    go true this h = Contains-append_left (ended_by next) (numbers_of ended_by log) number (ends_then number next this)
-    go false other h = Contains-append_right (ended_by next) (numbers_of ended_by log) number (ends_in number log h)
+    go : (b : Bool) → is_release number next ≡ b → b || list_any (is_release number) log ≡ true
+        → (list_any (is_release number) log ≡ true → Contains (numbers_of ended_by log) number) → Contains (numbers_of ended_by (next ∷ log)) number
+    go true this h rest = Contains-append_left (ended_by next) (numbers_of ended_by log) number (ends_then number next this)
+    go false other h rest = Contains-append_right (ended_by next) (numbers_of ended_by log) number (rest h)
 
 all_ended : (C P : Type 0) (log : List Event) (inside : InsideParts) → Runs C P log inside → list_any has_connection inside.boxes ≡ false
     → (number place : ℕ) → list_any (is_box_of number place) log ≡ true → Contains (numbers_of ended_by log) number

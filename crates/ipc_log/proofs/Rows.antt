@@ -116,12 +116,11 @@ in_one ns own number one there = go (subst (λ l. Contains l number) one there)
 
 not_any : (number : ℕ) (ns : List ℕ) → (Contains ns number → ⊥) → list_any (λ (n : ℕ). number == n) ns ≡ false
 not_any number [] none = refl
-not_any number (n ∷ ns) none = go (number == n) refl
+not_any number (n ∷ ns) none = go (number == n) refl (not_any number ns (λ c. none (suc c.0, omega (arith, c.1), c.2)))
   where
-    go : (b : Bool) → (number == n) ≡ b → (number == n) || list_any (λ (m : ℕ). number == m) ns ≡ false
-    go true is = absurd (none (0, omega arith, sym (eqb-true number n is)))
-    go false is =
-        ap (λ (b : Bool). b || list_any (λ (m : ℕ). number == m) ns) is ∙ not_any number ns (λ c. none (suc c.0, omega (arith, c.1), c.2))
+    go : (b : Bool) → (number == n) ≡ b → list_any (λ (m : ℕ). number == m) ns ≡ false → (number == n) || list_any (λ (m : ℕ). number == m) ns ≡ false
+    go true is rest = absurd (none (0, omega arith, sym (eqb-true number n is)))
+    go false is rest = ap (λ (b : Bool). b || list_any (λ (m : ℕ). number == m) ns) is ∙ rest
 
 eqb_equivalence : IsEquivalence (λ (a b : ℕ). a == b)
 eqb_equivalence = record { refl = λ x. eq-eqb x x refl; symm = λ x y. grind (arith, nat_tests); congr = λ x y z same. ap (λ w. w == z) (eqb-true x y same) }

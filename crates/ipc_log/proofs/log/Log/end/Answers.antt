@@ -22,8 +22,8 @@ join_seat-requires g c =
       takes_roll g.E.Entry.is_of g.E.Entry.begins g.E.Entry.ends _ _ _ _ _ (ap (λ m. m.0) p.4 ∙ ap (λ m. m.0) c.roll.invariant.1),
     )
 
-pub join_seat-2-requires : goal.join_seat-2-requires
-join_seat-2-requires g c =
+pub join_seat-requires-2 : goal.join_seat-requires-2
+join_seat-requires-2 g c =
     let j = c.join_seat.ensures in (
       j.0 ∙ (c.keeper.invariant.0 ∙ sym c.self.invariant.0),
       c.own.invariant.1 ∙ sym c.self.invariant.0,

@@ -3,7 +3,7 @@
 import time
 
 from python_client.package import name_server
-from python_client.seeing import Message, beside, check, end, l4ipc, names, output, same, told
+from python_client.seeing import Message, beside, check, end, l4ipc, names, output, raised, same, told
 
 
 def server_restarts(server):
@@ -11,6 +11,8 @@ def server_restarts(server):
     with server.thread(90) as asks:
         asked = names.Names(asks)
         same("no such name", asked.lookup("echo"), None)
+        told("a name that does not come", lambda: asked.wait_for("echo", 0.01), l4ipc.NameTimeout)
+        told("a call of it", lambda: asks.call("echo", wait_for=0.01), l4ipc.Unregistered, waited=0.01)
         first = server.thread(91)
         same("register", str(names.register(first, "echo")), "91.1")
         same("register again", str(names.register(first, "echo")), "91.1")
@@ -103,6 +105,7 @@ def full_names(server):
         for place in range(256):
             asked.register(f"n{place:03}")
         told("full", lambda: names.register(asks, "more"), names.NameFault, number=names.NameFault.FULL)
+        check("full tells the limit", "256 names" in str(raised(lambda: names.register(asks, "more"))))
         same("a full list", [name for name, _ in names.Names(asks).list()], [f"n{place:03}" for place in range(256)])
     with server.next_thread(97) as asks:
         wait_until_gone(asks, thread.id)
@@ -138,6 +141,7 @@ def name_server_restarts(server, l4x, process):
         end(process)
         wait_until_gone(thread, asked.server)
         told("no name server", lambda: asked.lookup("before"), names.NoNames)
+        told("none that comes", lambda: thread.call("before", wait_for=0.01), l4ipc.NoNames, waited=0.01)
         name_server(server, l4x, 2)
         same("a new name server has forgotten", asked.lookup("before"), None)
         same("it was found", str(asked.server), "255.2")

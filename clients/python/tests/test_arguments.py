@@ -30,7 +30,7 @@ ROWS = [
     *(("sender", lambda it, bad=bad: it.receive(bad)) for bad in (*BAD_IDS, 0)),
     *(("from_specifier", lambda it, bad=bad: it.ipc(FIRST, bad)) for bad in BAD_IDS),
     *(("dest", lambda it, bad=bad: it.exchange_registers(bad)) for bad in BAD_IDS),
-    *(("originator", sends(Message(originator=bad))) for bad in ("1.1", 1.5, [1], -1, 1 << 64)),
+    *(("originator", sends(Message(originator=bad))) for bad in ("1.1", 1.5, [1], -1, 1 << 64, 6, 6 << 32)),
     *(("timeout", lambda it, bad=bad: it.send(FIRST, timeout=bad)) for bad in BAD_SECONDS),
     *(("timeout", lambda it, bad=bad: it.wait(bad)) for bad in BAD_SECONDS),
     *(("timeout", lambda it, bad=bad: it.receive(FIRST, bad)) for bad in BAD_SECONDS),
@@ -55,6 +55,7 @@ ROWS = [
     ("tell", lambda it: it.serve(print, tell=7)),
     *(("name", lambda it, bad=bad: names.Names(it).register(bad)) for bad in (7, None, b"x", "n" * 65)),
     ("name", lambda it: names.Names(it).lookup(7)),
+    *(("originator", lambda it, bad=bad: names.Names(it).register("x", bad)) for bad in ("1.1", 1.5, -1, 1 << 64, 10, 10 << 32)),
     ("thread", lambda it: names.Names("1.1")),
     ("thread", lambda it: names.lookup(7, "x")),
     ("server", lambda it: names.Names(it, "255.1")),
@@ -104,6 +105,8 @@ class Arguments(unittest.TestCase):
             (lambda it: it.send("1.1"), "to: a thread id, as ThreadId.of(2, 1), is wanted, and not '1.1' (str)"),
             (sends(Message(0, [1.5])), "words[0]: an int of 64 bits is wanted, and not 1.5 (float)"),
             (sends(Message(0, [], ["abc"])), "strings[0]: bytes are wanted, and not 'abc' (str)"),
+            (sends(Message(originator=6)), "originator: a thread id, as ThreadId.of(6, 1), is wanted, and not 6 (int)"),
+            (lambda it: names.Names(it).register("x", 10), "originator: a thread id, as ThreadId.of(10, 1), is wanted, and not 10 (int)"),
             (lambda it: it.wait("1s"), "timeout: a number of seconds, or None for never, is wanted, and not '1s' (str)"),
         ):
             with self.assertRaises((TypeError, ValueError)) as caught:

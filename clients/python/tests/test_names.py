@@ -1,6 +1,7 @@
 """The client of a name server, against answers that a test gives."""
 
 import unittest
+import unittest.mock
 
 import l4ipc
 from l4ipc import ThreadId, names
@@ -64,6 +65,7 @@ class Names(unittest.TestCase):
                 asked.register("echo")
             self.assertEqual((caught.exception.number, caught.exception.holder, caught.exception.name), (number, ECHO, "echo"))
             self.assertIn("by 1.2: 'echo'", str(caught.exception))
+            self.assertEqual("it has 256 names of live threads" in str(caught.exception), number == names.NameFault.FULL)
             self.assertEqual("1 to 64 bytes of printable ASCII without the space" in str(caught.exception), number == names.NameFault.BAD_NAME)
 
     def test_a_list(self):
@@ -91,8 +93,42 @@ class Names(unittest.TestCase):
     def test_wait_for(self):
         asked, _ = self.asked(TIMEOUT + answered() + answered() + answered(thread=ECHO) + answered())
         self.assertEqual(asked.wait_for("echo", 5), ECHO)
-        with self.assertRaises(TimeoutError):
+        with self.assertRaises(l4ipc.NameTimeout) as caught:
             asked.wait_for("echo", 0)
+        self.assertIsInstance(caught.exception, TimeoutError)
+        self.assertIsInstance(caught.exception, l4ipc.L4Error)
+        self.assertEqual(str(caught.exception), "nobody has registered echo; waited for echo for 0 seconds")
+
+    def test_one_second_is_one(self):
+        asked, _ = self.asked(TIMEOUT + 20 * answered())
+        with unittest.mock.patch("l4ipc.names.pauses", lambda *_: iter(())), self.assertRaises(l4ipc.NameTimeout) as caught:
+            asked.wait_for("echo", 1)
+        self.assertEqual(str(caught.exception), "nobody has registered echo; waited for echo for 1 second")
+
+    def test_how_long_a_name_server_was_waited_for(self):
+        for does in (lambda it: it.call("echo", wait_for=0.02), lambda it: it.send("echo", wait_for=0.02),
+                     lambda it: names.Names(it).wait_to_register("echo", 0.02)):
+            thread, server = scripted(1000 * GONE)
+            self.open += [thread, server]
+            with self.assertRaises(l4ipc.NoNames) as caught:
+                does(thread)
+            self.assertEqual(caught.exception.waited, 0.02)
+            self.assertIn("up to 63), after waiting for 0.02 seconds: start l4x DIR names", str(caught.exception))
+            self.assertTrue(caught.exception.__suppress_context__)
+        thread, server = scripted(1000 * GONE)
+        self.open += [thread, server]
+        with self.assertRaises(l4ipc.NoNames) as caught:
+            thread.call("echo")
+        self.assertTrue(caught.exception.__suppress_context__)
+        self.assertIn("up to 63): start l4x DIR names", str(caught.exception))
+
+    def test_a_name_that_nobody_has_registered(self):
+        thread, server = scripted(TIMEOUT + 1000 * answered())
+        self.open += [thread, server]
+        with self.assertRaises(l4ipc.Unregistered) as caught:
+            thread.call("echo", wait_for=0.02)
+        self.assertIn("nobody has registered echo, after waiting for 0.02 seconds", str(caught.exception))
+        self.assertTrue(caught.exception.__suppress_context__)
 
 
 if __name__ == "__main__":

@@ -9,6 +9,7 @@ from . import names
 from .errors import Aborted, BadFrame, Cancelled, Closed, Fault, IpcError, L4Error, NoPartner, Overflow, Refused, Timeout
 from .exchanging import Exchanged
 from .message import Buffer, Message, Received
+from .names import NameFault, NameTimeout, NoNames, Unregistered
 from .serving import FUNCTION_FAILED
 from .thread import Thread
 from .words import ANYLOCALTHREAD, ANYTHREAD, NILTHREAD, ThreadId, period, seconds_of
@@ -28,6 +29,9 @@ __all__ = [
     "L4Error",
     "Message",
     "NILTHREAD",
+    "NameFault",
+    "NameTimeout",
+    "NoNames",
     "NoPartner",
     "Overflow",
     "Received",
@@ -35,6 +39,7 @@ __all__ = [
     "Thread",
     "ThreadId",
     "Timeout",
+    "Unregistered",
     "names",
     "period",
     "seconds_of",

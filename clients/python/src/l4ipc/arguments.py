@@ -36,6 +36,14 @@ def thread_id(name: str, value: object) -> int:
     return integer(name, value, 0, (1 << 64) - 1, "a thread id, as ThreadId.of(2, 1), is")
 
 
+def thread_or_nobody(name: str, value: object) -> int:
+    """The word of a thread id that has a number and a version, as `ThreadId.of` makes it, or nilthread: a bare number is none."""
+    word = thread_id(name, value)
+    if word and not (word >> 32 and word & 0xFFFF_FFFF):
+        raise wanted(name, f"a thread id, as ThreadId.of({word & 0xFFFF_FFFF or word >> 32}, 1), is", value)
+    return word
+
+
 def seconds(name: str, value: object) -> float:
     """A number of seconds that is not negative."""
     if isinstance(value, (str, bytes, bytearray)) or not hasattr(value, "__float__"):

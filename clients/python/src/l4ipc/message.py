@@ -82,7 +82,7 @@ class Message:
         if place > MAX_STRING_BYTES:
             raise ValueError(f"strings: they have {place} bytes, which is more than {MAX_STRING_BYTES}")
         flag = 0 if self.originator is None else PROPAGATED
-        originator = 0 if self.originator is None else arguments.thread_id("originator", self.originator)
+        originator = 0 if self.originator is None else arguments.thread_or_nobody("originator", self.originator)
         tag = label << 16 | flag | 2 * len(lengths) << 6 | len(words) - 2 * len(lengths)
         return Encoded(tag, originator, _WORDS[len(words)].pack(*words), b"".join(self.strings))
 

@@ -6,6 +6,7 @@ from typing import TYPE_CHECKING, Dict, List, Optional, Set, Tuple
 
 from . import arguments, protocol, steps
 from .errors import SEND, Circumstances, IpcError, L4Error, NoPartner, Refused, Timeout
+from .errors import seconds as in_words
 from .message import Buffer, Message, Received
 from .steps import Ipc, Pause, Steps
 from .waiting import pauses
@@ -20,6 +21,9 @@ NUMBER = 255
 
 MAX_VERSION = 63
 """Up to which version a thread is looked for."""
+
+MAX_NAMES = protocol.MAX_NAMES
+"""How many names a name server has at most."""
 
 MAX_NAME_BYTES = protocol.MAX_NAME_BYTES
 """How many bytes a name has at most."""
@@ -53,15 +57,26 @@ class NameFault(L4Error):
     def __str__(self) -> str:
         by = f" by {self.holder}" if self.holder else ""
         of = f": {arguments.shown(self.name)}" if self.name is not None else ""
-        rule = f"; a name has 1 to {MAX_NAME_BYTES} bytes of printable ASCII without the space" if self.number == self.BAD_NAME else ""
+        rules = {
+            self.BAD_NAME: f"; a name has 1 to {MAX_NAME_BYTES} bytes of printable ASCII without the space",
+            self.FULL: f"; it has {MAX_NAMES} names of live threads, and no more",
+        }
+        rule = rules.get(self.number, "")
         return f"the name server answered: {self.MEANINGS.get(self.number, f'error {self.number}')}{by}{of}{rule}"
 
 
 class NoNames(L4Error):
-    """No name server was found."""
+    """No name server was found. ``waited`` is how many seconds it was waited for, where that was asked for."""
+
+    waited: Optional[float] = None
 
     def __str__(self) -> str:
-        return f"no name server is there (a live thread of number {NUMBER}, of a version up to {MAX_VERSION}): start l4x DIR names"
+        waited = f", after waiting for {in_words(self.waited)}" if self.waited else ""
+        return f"no name server is there (a live thread of number {NUMBER}, of a version up to {MAX_VERSION}){waited}: start l4x DIR names"
+
+
+class NameTimeout(L4Error, TimeoutError):
+    """`Names.wait_for` has waited as long as it was told to: nobody has registered the name, or there is no name server."""
 
 
 class Unregistered(NoPartner):
@@ -124,7 +139,7 @@ class Book:
             if self.server is None:
                 self.server = yield from live_version(NUMBER, first)
                 if self.server is None:
-                    raise NoNames
+                    raise NoNames from None
             try:
                 answer: Received = yield Ipc(self.server, self.server, message, timeouts(self._timeout, self._timeout), buffers)
                 break
@@ -142,6 +157,8 @@ class Book:
 
     def register(self, name: str, originator: Optional[int] = None) -> Steps[ThreadId]:
         """`Names.register`."""
+        if originator is not None:
+            arguments.thread_or_nobody("originator", originator)
         answer = yield from self.ask(REGISTER, _bytes(name), originator)
         registered = ThreadId(answer.words[0])
         if registered == self._thread.id:
@@ -181,7 +198,7 @@ class Book:
                 return found
             pause = next(waiting, None)
             if pause is None:
-                raise TimeoutError(f"{missing}; waited for {name} for {seconds} seconds")
+                raise NameTimeout(f"{missing}; waited for {name}" + ("" if seconds is None else f" for {in_words(seconds)}")) from None
             yield Pause(pause)
 
     def wait_to_register(self, name: str, seconds: Optional[float]) -> Steps[ThreadId]:
@@ -190,9 +207,10 @@ class Book:
         while True:
             try:
                 return (yield from self.register(name))
-            except NoNames:
+            except NoNames as missing:
                 pause = next(waiting, None)
                 if pause is None:
+                    missing.waited = seconds or None
                     raise
             yield Pause(pause)
 
@@ -217,7 +235,7 @@ class Book:
         """A message to who has a name. Where that one has ended the name is looked up again; nothing was sent then."""
         found, waiting = self._thread.kept.found, pauses(arguments.seconds_or_none("wait_for", wait_for))
         while True:
-            was_known, failure = name in found, None
+            was_known = name in found
             try:
                 partner = found[name] if was_known else (yield from self._partner(name))
                 received: Optional[Received] = yield step._replace(to=partner, from_specifier=partner if is_call else NILTHREAD)
@@ -225,15 +243,13 @@ class Book:
             except (NoPartner, NoNames) as missing:
                 if isinstance(missing, NoPartner) and missing.phase != SEND:
                     raise
-                failure = missing
-            found.pop(name, None)
-            if was_known:
-                continue
-            pause = next(waiting, None)
-            if pause is None:
-                if isinstance(failure, NoPartner):
-                    failure.waited = wait_for or None
-                raise failure
+                found.pop(name, None)
+                if was_known:
+                    continue
+                pause = next(waiting, None)
+                if pause is None:
+                    missing.waited = wait_for or None
+                    raise missing from None
             yield Pause(pause)
 
     def _partner(self, name: str) -> Steps[ThreadId]:
@@ -317,7 +333,7 @@ class Names:
     def wait_for(self, name: str, seconds: Optional[float] = None) -> ThreadId:
         """The live thread that has the name, once there is one. It asks again after pauses of 5 milliseconds up to a second.
 
-        After so many seconds it raises ``TimeoutError``: nobody has registered the name, or there is no name server.
+        After so many seconds it raises `NameTimeout`, a ``TimeoutError``: nobody has registered the name, or there is no name server.
         """
         return self._thread.run(self._book.wait_for(name, seconds))
 

@@ -16,7 +16,7 @@ import sys
 
 sys.path[1:1] = [f"{sys.path[0]}/../lib", f"{sys.path[0]}/../../clients/python/src"]
 
-from python_client.calls import errors, faults, forked, long_life, propagation, refusals, strings, versions
+from python_client.calls import ended_threads, errors, faults, forked, long_life, propagation, refusals, spaces, strings, versions
 from python_client.naming import bad_names, busy_names, full_names, name_server_restarts, propagated_names, server_restarts
 from python_client.package import examples, first_program, installed, name_server, own_tests, types
 from python_client.relayed import documented_frames
@@ -33,6 +33,8 @@ def run(l4d, l4sh, l4x):
     process = name_server(server, l4x, 1)
     examples(server)
     refusals(server)
+    spaces(server)
+    ended_threads(server)
     forked(server)
     faults(server)
     versions(server)

@@ -1,5 +1,6 @@
 """Refusals, faults, errors, strings and propagation of the Python client against an l4d."""
 
+import asyncio
 import os
 import socket
 import time
@@ -7,7 +8,7 @@ import time
 from frames import TOO_LONG, fault, frame_of, words_bytes
 from processes import figures
 from protocol_tables import F_UNFINISHED, F_UNKNOWN_VERSION, MAX_STRING_BYTES, S_PROTOCOL
-from python_client.seeing import Encoded, Message, Server, ThreadId, beside, check, frames, l4ipc, raised, same, told, words
+from python_client.seeing import Encoded, Message, Server, ThreadId, aio, beside, check, frames, l4ipc, raised, same, told, words
 
 
 def refusals(server):
@@ -15,7 +16,41 @@ def refusals(server):
         told("K1 of 0", lambda: server.thread(0), l4ipc.Refused, number=1)
         told("K1 of 1024", lambda: server.thread(1024), l4ipc.Refused, number=1)
         told("K2", lambda: server.thread(60), l4ipc.Refused, number=2)
+        check("K2 tells what waits for it", "it was not waited for (wait_for=)" in str(raised(lambda: server.thread(60))))
         check("the thread goes on", raised(lambda: thread.sleep(0)) is None)
+
+
+def spaces(server):
+    """A space that the server does not have: what is told names the option."""
+    try:
+        came = server.thread(60, 3)
+    except FileNotFoundError as error:
+        came = error
+    check("a space that is not there", "--spaces 3 or more" in str(came), str(came))
+
+
+def ended_threads(server):
+    """A thread that was closed has ended: its number is free at once, whether its calls block or are coroutines, and whether one is open."""
+    async def coroutines():
+        async with aio.Thread(server.folder, 66):
+            pass
+        await (await aio.Thread(server.folder, 66).connect()).aclose()
+        (await aio.Thread(server.folder, 66).connect()).close()
+
+    def blocking():
+        with l4ipc.Thread(server.folder, 65):
+            pass
+
+    def with_an_open_call():
+        with l4ipc.Thread(server.folder, 67) as thread:
+            thread.begin_wait()
+
+    for opened in (blocking, with_an_open_call, lambda: asyncio.run(coroutines())):
+        began = time.monotonic()
+        came = [raised(opened) for _ in range(200)]
+        refused = [str(it) for it in came if it is not None]
+        check("a number is free once its thread is closed", not refused, f"{len(refused)} of 200 refused: {refused[:1]}")
+        check("no end was waited for in vain", time.monotonic() - began < 100, time.monotonic() - began)
 
 
 def forked(server):

@@ -16,6 +16,7 @@ from serving import Server as PlainServer, ended
 CLIENT = f"{ROOT}/clients/python"
 
 l4ipc = importlib.import_module("l4ipc")
+aio = importlib.import_module("l4ipc.aio")
 frames = importlib.import_module("l4ipc.frames")
 words = importlib.import_module("l4ipc.words")
 names = importlib.import_module("l4ipc.names")

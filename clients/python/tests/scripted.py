@@ -3,7 +3,10 @@
 import socket
 from typing import List, Tuple
 
-from l4ipc import Thread
+from l4ipc import Thread, connecting
+
+connecting.PATIENCE = 0.02
+"""The servers of these tests do not end a thread that says BYE, but for those of a test that looks at that."""
 
 WELCOME = bytes.fromhex("00000009 81 0000000200000001")
 FAILED = bytes.fromhex("00000022 82 0000000000008000 0000000000000000 0000000000000000 0000000000000004 00")
@@ -17,6 +20,7 @@ WORDS = bytes.fromhex(
 DONE = bytes.fromhex("00000022 82 0000000000000000 0000000000000000 0000000000000000 0000000000000000 00")
 EXREGR = bytes.fromhex("00000019 83 0000000200000001 0000000000000004 0000000000000000")
 REFUSED = bytes.fromhex("00000002 84 02")
+BYE = bytes.fromhex("00000001 04")
 FAULT = bytes.fromhex("00000003 85 46 01")
 
 

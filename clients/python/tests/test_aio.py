@@ -1,6 +1,8 @@
 """Threads whose calls are coroutines, against servers that a test gives."""
 
 import asyncio
+import threading
+import time
 import unittest
 import unittest.mock
 
@@ -8,11 +10,18 @@ import l4ipc
 from l4ipc import FUNCTION_FAILED, Message, Thread, ThreadId, aio
 
 from .scripted import DONE, EXREGR, FAULT, REFUSED, STRING, WELCOME, WORDS, failed, outcome, said
-from .test_connecting import Listener
+from .test_connecting import Ender, Listener, patience
 
 FIRST = ThreadId.of(1, 1)
 IN_255 = 0xFF00000001
 AGAIN = bytes.fromhex("00000009 81 0000000200000002")
+
+
+async def ticks(turns):
+    """What other coroutines do meanwhile."""
+    while True:
+        await asyncio.sleep(0.01)
+        turns.append(None)
 
 
 def scripted(answers, does, *more, **named):
@@ -71,6 +80,66 @@ class Aio(unittest.TestCase):
                             await thread.wait()
 
             asyncio.run(main())
+
+    def test_the_end_waits_until_the_server_has_ended_the_thread(self):
+        async def ends_with(thread):
+            async with thread:
+                pass
+
+        async def ends_at_once(thread):
+            (await thread.connect()).close()
+
+        async def ends_by_a_call(thread):
+            await (await thread.connect()).aclose()
+
+        async def ends_twice(thread):
+            await thread.connect()
+            await asyncio.gather(thread.aclose(), thread.aclose())
+
+        async def main(folder, ends):
+            turns = []
+            ticking = asyncio.ensure_future(ticks(turns))
+            await ends(aio.Thread(folder, 2))
+            ticking.cancel()
+            return len(turns)
+
+        began = time.monotonic()
+        for ends, others_go_on in ((ends_with, True), (ends_at_once, False), (ends_by_a_call, True), (ends_twice, True)):
+            with Listener([WELCOME]) as there, patience(10):
+                there.listens()
+                worker = threading.Thread(target=lambda: enders.append(Ender(there.accepted(), 0.2)))
+                enders = []
+                worker.start()
+                turns = asyncio.run(main(there.folder, ends))
+                worker.join()
+                self.assertTrue(enders[0].has_ended)
+                self.assertEqual(turns > 5, others_go_on)
+                enders[0].worker.join()
+        self.assertLess(time.monotonic() - began, 8)
+
+    def test_the_end_does_not_wait_for_ever(self):
+        async def main(folder):
+            async with aio.Thread(folder, 2) as thread:
+                pass
+            await thread.aclose()
+            thread.close()
+            return thread.is_closed
+
+        with Listener([WELCOME]) as there, patience(0.3):
+            began = time.monotonic()
+            self.assertTrue(asyncio.run(main(there.listens().folder)))
+            self.assertTrue(0.3 <= time.monotonic() - began < 1)
+
+    def test_the_end_while_another_coroutine_makes_a_call(self):
+        async def does(thread):
+            call = asyncio.ensure_future(thread.wait())
+            await asyncio.sleep(0.01)
+            await thread.aclose()
+            call.cancel()
+            return thread.is_closed
+
+        came, frames = scripted(b"", does)
+        self.assertEqual((came, [frame[4] for frame in frames]), (True, [1, 2, 4]))
 
     def test_one_call_at_a_time(self):
         async def does(thread):

@@ -9,13 +9,14 @@ import tempfile
 import threading
 import time
 import unittest
+import unittest.mock
 import warnings
 
 import l4ipc
 import l4ipc.aio
-from l4ipc import Message, Thread, ThreadId
+from l4ipc import Message, Thread, ThreadId, connecting
 
-from .scripted import FAULT, REFUSED, WELCOME, WORDS, failed, outcome, said, scripted
+from .scripted import BYE, FAULT, REFUSED, WELCOME, WORDS, failed, outcome, said, scripted
 
 FIRST = ThreadId.of(1, 1)
 
@@ -50,6 +51,12 @@ class Listener:
             time.sleep(0.005)
         return self
 
+    def accepted(self):
+        """The last connection, once it is there."""
+        while not self.kept:
+            time.sleep(0.005)
+        return self.kept[-1]
+
     def __enter__(self):
         return self
 
@@ -74,6 +81,8 @@ class Connecting(unittest.TestCase):
         self.assertEqual(error.filename, "/nope/space1")
         self.fails(FileNotFoundError, "/nope", "/nope/space1", "after waiting for 0.2 seconds", wait_for=0.2)
         self.assertTrue(0.2 <= time.monotonic() - began < 5)
+        self.assertNotIn("--spaces", str(error))
+        self.fails(FileNotFoundError, "/nope", "/nope/space3", "with the folder DIR, and --spaces 3 or more", space=3)
 
     def test_nobody_listens(self):
         with Listener() as there:
@@ -109,6 +118,10 @@ class Connecting(unittest.TestCase):
         with Listener([REFUSED], ends=True) as there:
             error = self.fails(l4ipc.Refused, there.listens().folder, "number 2", there.path, "K2", "is live")
             self.assertEqual(error.number, 2)
+            self.assertIn("is live, and it was not waited for (wait_for=)", str(error))
+        for number, text in ((2, "K2: a thread of that number is live, after waiting for 1 second"), (4, "K4: the server has no memory")):
+            error = connecting.explained(l4ipc.Refused(number), connecting.Place("/d/space1", 2, wait_for=1))
+            self.assertEqual(str(error), f"number 2 at /d/space1: refused {text}")
 
     def test_what_does_not_pass(self):
         for answer, kind in ((REFUSED[:-1] + b"\1", l4ipc.Refused), (FAULT, l4ipc.Fault), (WORDS, l4ipc.BadFrame)):
@@ -135,6 +148,99 @@ class Connecting(unittest.TestCase):
             self.fails(l4ipc.Closed, there.listens().folder, there.path)
         with Listener([b"", b"", WELCOME], ends=True) as there:
             Thread(there.listens().folder, 2, wait_for=10).close()
+
+
+def patience(seconds):
+    """The client waits so long for a server that does not end a thread."""
+    return unittest.mock.patch.object(connecting, "PATIENCE", seconds)
+
+
+class Ender:
+    """The server's side of a thread: so many seconds after BYE it ends the connection, behind some bytes. Once it has, `has_ended`."""
+
+    def __init__(self, server, after, said=b""):
+        self.server, self.after, self.said, self.has_ended = server, after, said, False
+        self.worker = threading.Thread(target=self.serve, daemon=True)
+        self.worker.start()
+
+    def serve(self):
+        while not self.server.recv(100).endswith(BYE):
+            pass
+        time.sleep(self.after)
+        self.server.sendall(self.said)
+        self.has_ended = True
+        self.server.close()
+
+
+class Ending(unittest.TestCase):
+    def test_close_waits_until_the_server_has_ended_the_thread(self):
+        for said_before in (b"", FAULT, bytes(100_000)):
+            thread, server = scripted(b"", ends=False)
+            with patience(10):
+                ender = Ender(server, 0.1, said_before)
+                thread.close()
+            self.assertTrue(ender.has_ended)
+            ender.worker.join()
+
+    def test_the_end_of_with_does_so(self):
+        thread, server = scripted(b"", ends=False)
+        with patience(10):
+            ender = Ender(server, 0.1)
+            with thread:
+                thread.begin_wait()
+        self.assertTrue(ender.has_ended and thread.is_closed)
+        ender.worker.join()
+
+    def test_it_does_not_wait_for_ever(self):
+        for floods in (False, True):
+            thread, server = scripted(b"", ends=False)
+            if floods:
+                threading.Thread(target=flood, args=(server,), daemon=True).start()
+            began = time.monotonic()
+            with patience(0.3):
+                thread.close()
+                thread.close()
+            self.assertTrue(0.3 <= time.monotonic() - began < 0.6)
+            server.close()
+
+    def test_it_raises_nothing(self):
+        thread, server = scripted(b"")
+        server.close()
+        thread.close()
+        thread, server = scripted(b"", ends=False)
+        thread._connection.setblocking(False)
+        with self.assertRaises(BlockingIOError):
+            while True:
+                thread._connection.send(bytes(100_000))
+        began = time.monotonic()
+        with patience(10):
+            thread.close()
+            self.assertTrue(thread.is_closed)
+        thread, other = scripted(b"", ends=False)
+        thread._connection.close()
+        with patience(10):
+            thread.close()
+        self.assertLess(time.monotonic() - began, 5)
+        server.close()
+        other.close()
+
+    def test_a_thread_whose_connection_has_ended_is_not_waited_for(self):
+        thread, server = scripted(FAULT, ends=False)
+        with self.assertRaises(l4ipc.Fault):
+            thread.wait()
+        began = time.monotonic()
+        with patience(10):
+            thread.close()
+        self.assertLess(time.monotonic() - began, 5)
+        server.close()
+
+
+def flood(server):
+    try:
+        while True:
+            server.sendall(bytes(1000))
+    except OSError:
+        pass
 
 
 class WaitingForAPartner(unittest.TestCase):
@@ -214,8 +320,10 @@ class Texts(unittest.TestCase):
 
     def test_no_name_server(self):
         thread, server = scripted(200 * failed(0x5))
-        with self.assertRaises(TimeoutError) as caught:
+        with self.assertRaises(l4ipc.NameTimeout) as caught:
             l4ipc.names.Names(thread).wait_for("x", 0.01)
+        self.assertIsInstance(caught.exception, TimeoutError)
+        self.assertIsInstance(caught.exception, l4ipc.L4Error)
         self.assertIn("no name server is there", str(caught.exception))
         self.assertIn("start l4x DIR names", str(caught.exception))
         thread.close()
@@ -253,7 +361,10 @@ class Forking(unittest.TestCase):
                 return "of the process that forked: connect in the child" in str(end) and thread.is_closed
             return False
 
-        self.assertTrue(self.in_child(is_left))
+        with patience(10):
+            began = time.monotonic()
+            self.assertTrue(self.in_child(is_left))
+            self.assertLess(time.monotonic() - began, 5)
         self.assertEqual(thread.wait().words, (7, 8))
         self.assertEqual([frame[4] for frame in said(server)], [1, 2])
         thread.close()

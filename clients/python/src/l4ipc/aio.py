@@ -67,17 +67,37 @@ class Thread(Caller):
         return await self.connect()
 
     async def __aexit__(self, *_: object) -> None:
-        self.close()
+        await self.aclose()
 
     def close(self) -> None:
-        """Says BYE, and ends the thread. A closed thread stays closed."""
-        if self._connection is not None and not self._is_lost:
-            try:
-                self._connection.send(frames.bye())
-            except OSError:
-                pass
+        """Says BYE, and ends the thread, as that of `l4ipc.Thread`: all coroutines wait for the server meanwhile. A closed thread stays closed."""
+        connection = self._to_be_ended()
+        if connection is None:
+            return
+        try:
+            connecting.end_thread(connection)
+        finally:
+            self._close()
+
+    async def aclose(self) -> None:
+        """The same, as the end of ``async with``: other coroutines go on meanwhile."""
+        if self._is_open:  # another coroutine reads the connection
+            return self.close()
+        connection = self._to_be_ended()
+        if connection is None:
+            return
+        try:
+            await asyncio.wait_for(_end_thread(connection), connecting.PATIENCE)
+        except (OSError, asyncio.TimeoutError):
+            pass
+        finally:
+            self._close()
+
+    def _to_be_ended(self) -> Optional[socket.socket]:
+        """The thread is closed from now on. The connection, where that is still to be ended: who asked first does so."""
+        is_there = not self._is_closed and not self._is_lost
         self._is_closed = True
-        self._close()
+        return self._connection if is_there else None
 
     def _close(self) -> None:
         self._lose()
@@ -413,6 +433,13 @@ async def _attempt(place: connecting.Place, seconds: Optional[float]) -> Tuple[s
     except BaseException:
         connection.close()
         raise
+
+
+async def _end_thread(connection: socket.socket) -> None:
+    """Says BYE, and reads until the server has ended the thread, as `connecting.end_thread`."""
+    connection.send(frames.bye())
+    while await asyncio.get_running_loop().sock_recv(connection, _MOST_READ):
+        pass
 
 
 async def _greet(connection: socket.socket, place: connecting.Place, end: Optional[float]) -> ThreadId:

@@ -1,7 +1,8 @@
-"""Connecting to l4d: waiting until it is there, and saying why it is not."""
+"""Connecting to l4d: waiting until it is there, and saying why it is not; and ending a thread."""
 
 import errno
 import os
+import select
 import socket
 import time
 from contextlib import suppress
@@ -22,8 +23,12 @@ MAX_PATH_BYTES = protocol.MAX_PATH_BYTES
 MAX_SPACE = protocol.MAX_SPACE
 """The greatest number of a space: l4d has no path beyond it."""
 
+PATIENCE = 1.0
+"""How many seconds a thread that is closed waits at most for the server to end it."""
+
+_MOST_READ = 65_536
 _HELP = {
-    errno.ENOENT: "no such path{}: start l4d --dir DIR with the folder DIR",
+    errno.ENOENT: "no such path{waited}: start l4d --dir DIR with the folder DIR{spaces}",
     errno.ECONNREFUSED: "nobody listens at that path, since its l4d has ended",
     errno.EACCES: "no permission to connect: who may is in the mode of the path and of its folder",
     errno.ETIMEDOUT: "l4d does not answer: it is full (its --live and --keep-open, and its descriptors), or it is stopped",
@@ -39,6 +44,7 @@ class Place:
     version: int = 1
     wait_for: Optional[float] = 0
     connect_timeout: Optional[float] = None
+    space: int = 1
 
     def hello(self) -> bytes:
         """The frame that asks for the thread."""
@@ -62,10 +68,11 @@ def path_in(directory: object, name: str) -> str:
 
 def place_of(directory: object, number: int, space: int, version: int, wait_for: Optional[float], connect_timeout: Optional[float]) -> Place:
     """The place of a thread of a server's folder; a wrong argument is a TypeError or a ValueError."""
-    path = path_in(directory, f"space{arguments.integer('space', space, 1, MAX_SPACE)}")
+    space = arguments.integer("space", space, 1, MAX_SPACE)
+    path = path_in(directory, f"space{space}")
     frames.hello(number, version)
     waits = arguments.seconds_or_none("wait_for", wait_for)
-    return Place(path, number, version, waits, arguments.seconds_or_none("connect_timeout", connect_timeout))
+    return Place(path, number, version, waits, arguments.seconds_or_none("connect_timeout", connect_timeout), space)
 
 
 def passes(error: Exception) -> bool:
@@ -77,8 +84,9 @@ def passes(error: Exception) -> bool:
 
 def explained(error: Exception, place: Place) -> Exception:
     """The same error with the path, and with what helps."""
+    waited = f", after waiting for {seconds(place.wait_for)}" if place.wait_for else ", and it was not waited for (wait_for=)"
     if isinstance(error, Refused):
-        return Refused(error.number, f"number {place.number} at {place.path}")
+        return Refused(error.number, f"number {place.number} at {place.path}", waited if passes(error) else "")
     if isinstance(error, (Closed, ConnectionResetError, BrokenPipeError)):
         return Closed(f"l4d closed the connection at {place.path} before it answered")
     if not isinstance(error, OSError):
@@ -86,8 +94,8 @@ def explained(error: Exception, place: Place) -> Exception:
     number = errno.ETIMEDOUT if isinstance(error, (socket.timeout, BlockingIOError)) else error.errno
     if number is None:
         return OSError(errno.EINVAL, str(error), place.path)
-    waited = f", after waiting for {seconds(place.wait_for)}" if place.wait_for else ", and it was not waited for (wait_for=)"
-    return OSError(number, _HELP.get(number, os.strerror(number)).format(waited), place.path)
+    spaces = f", and --spaces {place.space} or more" if place.space > 1 else ""
+    return OSError(number, _HELP.get(number, os.strerror(number)).format(waited=waited, spaces=spaces), place.path)
 
 
 def welcomed(answer: frames.Answer) -> ThreadId:
@@ -116,6 +124,21 @@ def connect(place: Place) -> Tuple[socket.socket, ThreadId]:
             if pause is None:
                 raise explained(error, place) from None
         time.sleep(pause)
+
+
+def end_thread(connection: socket.socket) -> None:
+    """Says BYE, and reads until the server has ended the thread, whose number is free then. It waits `PATIENCE` seconds at most.
+
+    It raises nothing, whatever the connection is: it may have ended, or be closed meanwhile. What comes before the end is nobody's.
+    """
+    until, poll = end_of(PATIENCE), select.poll()
+    with suppress(OSError, ValueError):
+        connection.send(frames.bye(), socket.MSG_DONTWAIT)
+        poll.register(connection, select.POLLIN)
+        while (left := left_until(until)) and poll.poll(1000 * left):
+            with suppress(BlockingIOError):  # another thread of this process has read it
+                if not connection.recv(_MOST_READ, socket.MSG_DONTWAIT):
+                    return
 
 
 def _attempt(place: Place, end: Optional[float]) -> Tuple[socket.socket, ThreadId]:

@@ -176,14 +176,15 @@ class Refused(L4Error):
 
     MEANINGS = protocol.REFUSALS
 
-    def __init__(self, number: int, about: str = "") -> None:
+    def __init__(self, number: int, about: str = "", waited: str = "") -> None:
         self.number = number
         self.about = about
-        super().__init__(number, about)
+        self.waited = waited
+        super().__init__(number, about, waited)
 
     def __str__(self) -> str:
         about = f"{self.about}: " if self.about else ""
-        return f"{about}refused K{self.number}: {self.MEANINGS.get(self.number, 'unknown')}"
+        return f"{about}refused K{self.number}: {self.MEANINGS.get(self.number, 'unknown')}{self.waited}"
 
 
 class Fault(L4Error):

@@ -95,14 +95,17 @@ class Thread(Caller):
         self.close()
 
     def close(self) -> None:
-        """Says BYE, and ends the thread. A closed thread stays closed."""
-        if not self._is_closed and not self._is_lost:
-            try:
-                self._connection.sendall(frames.bye())
-            except OSError:
-                pass
+        """Says BYE, and ends the thread. A closed thread stays closed.
+
+        It waits for the server to end the thread, so that its number is free then: at most a second.
+        """
+        is_there = not self._is_closed and not self._is_lost
         self._is_closed = True
-        self._connection.close()
+        try:
+            if is_there:
+                connecting.end_thread(self._connection)
+        finally:
+            self._connection.close()
 
     def _close(self) -> None:
         self._lose()

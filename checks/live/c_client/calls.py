@@ -144,6 +144,18 @@ def check_errors(programs, l4d, room):
         want(one.ask("nowhere"), "^C12: a string or a buffer lies in memory")
         want(one.ask("buffer -5"), "^C11: no string item")
         want(one.ask("null_buffer"), "^C12: a string or a buffer lies in memory")
+        want(one.ask("nowhere_buffer"), "^C12: a string or a buffer lies in memory")
+        # memory that cannot be written at its begin or its end, or is not there between; behind the longest string nothing is written
+        for pages in ("r", "x", "rw", "xw", "wr", "wx", "wxw", "wwwxxw"):
+            want(one.ask(f"buffer_in {pages}"), "^C12: a string or a buffer lies in memory")
+        for pages in ("w", "ww", "www", "w" * 300, "w" * 300 + "x"):
+            want(one.ask(f"buffer_in {pages}"), r"^receive phase from 9\.1: non-existing partner")
+        # more substrings than the function takes, and a u or t that are not those of the words
+        for line in ("compound", "compound_put", "compound_buffer", "put -1 0", "put 0 2", "put 0 -1", "put 1 1"):
+            want(one.ask(line), "^C11: no string item, or not such as the function takes: ")
+        for line in ("put 64 0", "put 61 3"):
+            want(one.ask(line), "^F4: ")
+        want(one.ask("put 60 3"), r"^send phase to 9\.1: non-existing partner")
         want(one.ask("item 5"), r"^send phase to 9\.1: non-existing partner \(e=2, offset 0\)$")
         want(one.ask("buffer 5"), r"^receive phase from 9\.1: non-existing partner")
         want(("", 0, one.ipc(source=LOCAL, rcv=0x64)[6]), "^receive phase from any thread of the space: timeout")

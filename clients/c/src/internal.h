@@ -27,7 +27,7 @@ enum {
 	TAG_REDIRECTED = 0x2000,
 	TAG_CROSSED = 0x4000,
 	TAG_FAILED = 0x8000,
-	/* u and t of a message that was given more than it can have, and of one that was given what is no string item */
+	/* u and t of a message that was given more than it can have, and of one that was given another item or count than can be */
 	TAG_SPOILT = 0xfff,
 	TAG_SPOILT_BY_ITEM = 0xfbf,
 	ITEM_MORE = 0x1,
@@ -171,6 +171,9 @@ int l4_take(struct thread *thread, size_t count, const unsigned char **bytes);
 int l4_take_to(struct thread *thread, void *memory, size_t count);
 /* What a frame tells that is not the answer that was asked for: REFUSED, FAULT, or nonsense. Always -1. */
 int l4_read_refusal(struct thread *thread, unsigned kind, size_t body);
+
+/* memory.c: whether so many bytes can be written there, of which no more than a message may have are looked at. */
+bool l4_can_write(const void *memory, L4_Word_t length);
 
 /* request.c: makes the frame of a call from the registers, and sends it. 0, or -1 where it is refused or the connection lost. */
 int l4_ask(struct thread *thread, struct phases *phases, L4_Word_t timeouts);

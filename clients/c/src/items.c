@@ -174,7 +174,7 @@ void L4_MsgBufferAppendRcvString(L4_MsgBuffer_t *b, const L4_StringItem_t *s)
 void L4_MsgBufferAppendSimpleRcvString(L4_MsgBuffer_t *b, L4_StringItem_t s)
 {
 	if (L4_CompoundString(&s))
-		spoil_buffers(b);
+		b->raw[0] = BUFFERS_SPOILT_BY_ITEM;
 	else
 		L4_MsgBufferAppendRcvString(b, &s);
 }

@@ -82,7 +82,7 @@ void L4_MsgAppendStringItem(L4_Msg_t *msg, const L4_StringItem_t *s)
 void L4_MsgAppendSimpleStringItem(L4_Msg_t *msg, L4_StringItem_t s)
 {
 	if (L4_CompoundString(&s))
-		spoil(msg);
+		spoil_by_item(msg);
 	else
 		L4_MsgAppendStringItem(msg, &s);
 }
@@ -95,9 +95,9 @@ void L4_MsgPut(L4_Msg_t *msg, L4_Word_t label, int u, const L4_Word_t *ut, int t
 		L4_MsgAppendWord(msg, ut[i]);
 	for (size_t i = 0; !is_spoilt(msg) && (int) typed_of(msg) < t; i++)
 		L4_MsgAppendStringItem(msg, &Items[i]);
-	/* the words of the items are not t, or u or t is no number of words */
-	if (u < 0 || t < 0 || (int) typed_of(msg) != t)
-		spoil(msg);
+	/* t ends inside an item, or u or t is no number of words */
+	if (u < 0 || (int) typed_of(msg) != t)
+		spoil_by_item(msg);
 }
 
 void L4_Put(L4_Msg_t *msg, L4_Word_t label, int u, const L4_Word_t *ut, int t, const L4_StringItem_t *Items)
@@ -176,7 +176,7 @@ void L4_MsgPutStringItem(L4_Msg_t *msg, L4_Word_t t, const L4_StringItem_t *s)
 void L4_MsgPutSimpleStringItem(L4_Msg_t *msg, L4_Word_t t, L4_StringItem_t s)
 {
 	if (L4_CompoundString(&s))
-		spoil(msg);
+		spoil_by_item(msg);
 	else
 		L4_MsgPutStringItem(msg, t, &s);
 }

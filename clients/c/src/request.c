@@ -17,17 +17,23 @@ struct request {
 	unsigned char head[LENGTH_BYTES + IPC_BODY + 8 * (MAX_MESSAGE_WORDS + MAX_BUFFER_WORDS)];
 };
 
-/* Whether a substring of these items has bytes and a null pointer. */
-static bool lacks_memory(const L4_Word_t *words, size_t count)
+/* Whether there may be so many bytes of a string at a pointer. Of other memory that is not there the system tells. */
+static bool is_no_null(const void *memory, L4_Word_t length)
+{
+	return memory != NULL || length == 0;
+}
+
+/* Whether each substring of these items is there, by what looks at one. */
+static bool are_there(const L4_Word_t *words, size_t count, bool (*is_there)(const void *memory, L4_Word_t length))
 {
 	for (size_t at = 0; at < count;) {
 		L4_Word_t descriptor = words[at++];
 
 		for (L4_Word_t left = item_pointers(descriptor); left > 0; left--)
-			if (words[at++] == 0 && item_length(descriptor) > 0)
-				return true;
+			if (!is_there(memory_at(words[at++]), item_length(descriptor)))
+				return false;
 	}
-	return false;
+	return true;
 }
 
 /* One substring: its offset goes into the frame, its bytes are gathered when the frame is sent. -1 where the strings
@@ -63,7 +69,7 @@ static unsigned put_items(struct request *request, const L4_Word_t *words, size_
 	}
 	if (goes_on)
 		return F_PAST_WORDS;
-	return lacks_memory(words, count) ? OF_LIBRARY | C_NO_MEMORY_THERE : 0;
+	return are_there(words, count, is_no_null) ? 0 : OF_LIBRARY | C_NO_MEMORY_THERE;
 }
 
 /* The fault of an item that is none or runs past its words: that of its first descriptor at fault. */
@@ -91,7 +97,7 @@ static unsigned count_buffers(const L4_Word_t *br, size_t *count)
 		follows = (words[*count] & ITEM_MORE) != 0;
 		*count += item;
 	}
-	return lacks_memory(words, *count) ? OF_LIBRARY | C_NO_MEMORY_THERE : 0;
+	return are_there(words, *count, l4_can_write) ? 0 : OF_LIBRARY | C_NO_MEMORY_THERE;
 }
 
 static bool has_time_point(const struct phases *phases, L4_Word_t timeouts)

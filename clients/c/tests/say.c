@@ -10,7 +10,10 @@
  *     begin, readable, end              a wait in two parts, and whether its outcome has begun to come
  *     connect_wait MICROSECONDS DIR SPACE NUMBER VERSION, lookup_wait MICROSECONDS NAME, call_wait MICROSECONDS TO
  *     item SIZE, null, nowhere          sends a string of this size, at no address, at one that is not there;
- *                                       buffer SIZE and null_buffer receive one
+ *                                       buffer SIZE, null_buffer and nowhere_buffer receive one
+ *     buffer_in PAGES                   receives one into pages: `w` can be written, `r` read alone, `x` are not there
+ *     compound, compound_buffer         uses a string of two substrings where a simple one is wanted
+ *     compound_put, put U T             puts such a string, or one item that has t = 3, into a message, and sends it
  *
  * VIRTUAL is `-` without propagation. Lists are `-` or separated by commas. A string is its substrings, each `x` and bytes,
  * joined by `+`; a buffer is the decimal lengths of its substrings joined by `+`, and BUFFERS is `s` for strings accepted
@@ -24,6 +27,8 @@
 #include <stdio.h>
 #include <stdlib.h>
 #include <string.h>
+#include <sys/mman.h>
+#include <unistd.h>
 
 enum { LINE_BYTES = 1 << 22, MEMORY_BYTES = 1 << 22, MOST = 64 };
 
@@ -338,6 +343,62 @@ static void receive_string(L4_StringItem_t item)
 	L4_Accept(L4_UntypedWordsAcceptor);
 }
 
+/* Receives a string into all of these pages but the first 8 bytes and the last 8, and then nothing is left of them. */
+static void receive_in_pages(const char *states)
+{
+	size_t page = (size_t) sysconf(_SC_PAGESIZE), count = strlen(states);
+	char *pages = mmap(NULL, count * page, PROT_READ | PROT_WRITE, MAP_PRIVATE | MAP_ANONYMOUS, -1, 0);
+
+	if (pages == MAP_FAILED)
+		die("no pages");
+	for (size_t i = 0; i < count; i++) {
+		if (states[i] == 'r' && mprotect(pages + i * page, page, PROT_READ) < 0)
+			die("mprotect");
+		if (states[i] == 'x' && munmap(pages + i * page, page) < 0)
+			die("munmap");
+	}
+	receive_string(L4_StringItem((int) (count * page - 16), pages + 8));
+	for (size_t i = 0; i < count * page && strchr(states, 'x') == NULL; i++)
+		if (pages[i] != 0)
+			die("a byte of a buffer was written, and nothing came");
+	for (size_t i = 0; i < count; i++)
+		if (states[i] != 'x')
+			(void) munmap(pages + i * page, page);
+}
+
+static L4_StringItem_t compound_item(void)
+{
+	L4_StringItem_t item = L4_StringItem(1, memory);
+
+	L4_AddSubstringAddressTo(&item, memory + 8);
+	return item;
+}
+
+/* Puts a compound string where a simple one is wanted. */
+static void send_compound_put(void)
+{
+	L4_Msg_t msg;
+
+	L4_MsgClear(&msg);
+	L4_MsgAppendSimpleStringItem(&msg, L4_StringItem(1, memory));
+	L4_MsgPutSimpleStringItem(&msg, 0, compound_item());
+	L4_MsgLoad(&msg);
+	print_outcome(L4_Send(L4_GlobalId(9, 1)), L4_nilthread);
+}
+
+/* Sends so many untyped words and one item of three words, by L4_MsgPut with this t. */
+static void send_put(char *line)
+{
+	static const L4_Word_t list[2 * MOST];
+	L4_StringItem_t item = compound_item();
+	int u = atoi(part(&line, " "));
+	L4_Msg_t msg;
+
+	L4_MsgPut(&msg, 0, u, list, atoi(line), &item);
+	L4_MsgLoad(&msg);
+	print_outcome(L4_Send(L4_GlobalId(9, 1)), L4_nilthread);
+}
+
 static void list(const char *after)
 {
 	char name[L4_NAME_BYTES + 1] = "-";
@@ -396,6 +457,18 @@ static void run(char *line)
 		receive_string(L4_StringItem(atoi(line), memory));
 	else if (strcmp(command, "null_buffer") == 0)
 		receive_string(L4_StringItem(1, NULL));
+	else if (strcmp(command, "nowhere_buffer") == 0)
+		receive_string(L4_StringItem(64, (void *) 16));
+	else if (strcmp(command, "buffer_in") == 0)
+		receive_in_pages(line);
+	else if (strcmp(command, "compound") == 0)
+		send_string(compound_item());
+	else if (strcmp(command, "compound_buffer") == 0)
+		receive_string(compound_item());
+	else if (strcmp(command, "compound_put") == 0)
+		send_compound_put();
+	else if (strcmp(command, "put") == 0)
+		send_put(line);
 	else
 		die(command);
 }

@@ -156,7 +156,7 @@ static void check_messages(void)
 	CHECK(L4_UntypedWords(L4_MsgMsgTag(&msg)) == 1);
 }
 
-/* A message that was given too much, or no string item, has a tag that no message has. */
+/* A message that was given too much, or no such item or count as the function takes, has a tag that no message has. */
 static void check_spoilt(void)
 {
 	static char byte;
@@ -185,12 +185,16 @@ static void check_spoilt(void)
 	CHECK(msg.raw[0] == 0xfbf);
 	L4_MsgClear(&msg);
 	L4_MsgAppendSimpleStringItem(&msg, two);
-	CHECK(msg.raw[0] == 0xfff);
+	CHECK(msg.raw[0] == 0xfbf);
 	L4_MsgPut(&msg, 1, 64, words, 0, NULL);
 	CHECK(msg.raw[0] == 0x10fff);
 	L4_MsgPut(&msg, 0, 0, NULL, 2, &two);
-	CHECK(msg.raw[0] == 0xfff);
+	CHECK(msg.raw[0] == 0xfbf);
 	L4_MsgPut(&msg, 0, -1, NULL, 0, NULL);
+	CHECK(msg.raw[0] == 0xfbf);
+	L4_MsgPut(&msg, 0, 0, NULL, -1, NULL);
+	CHECK(msg.raw[0] == 0xfbf);
+	L4_MsgPut(&msg, 0, 61, words, 3, &two);
 	CHECK(msg.raw[0] == 0xfff);
 	L4_MsgClear(&msg);
 	L4_MsgPutWord(&msg, 63, 0);

@@ -1,8 +1,9 @@
 /* Messages: the tag, message and buffer registers, string items, and what composes them.
  *
  * A message has at most 63 words behind its tag, untyped and typed together. What is appended or put beyond that spoils
- * the message: its tag then counts more than 63 words, so that the Ipc that would send it fails (F4) and sends nothing; C11
- * where what was appended is no string item. A string or buffer of some bytes at a null pointer fails with C12.
+ * the message: its tag then counts more than 63 words, so that the Ipc that would send it fails (F4) and sends nothing. C11
+ * where it is no string item, or has several substrings and the function takes a simple one, or where a u or t of L4_MsgPut
+ * is below 0 or this t ends inside an item. A string or buffer of some bytes where no memory is fails with C12.
  * Registers beyond MR63 or BR32, or before the first, are not there: the next Ipc fails (C2). */
 #ifndef L4_MESSAGE_H
 #define L4_MESSAGE_H

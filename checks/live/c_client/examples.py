@@ -87,11 +87,10 @@ def check_names(programs, l4d, l4sh, room, start):
         want(ask(two, "list echo")[0], f"1 {longest} {one.thread:x}")
         for bad in ("n" * (MAX_NAME_BYTES + 1), "a b", "\u00e9"):
             want(ask(one, f"register {bad}")[1], 22)
-        # buffers that were accepted before stay
+        # buffers that were accepted before stay: this one is nowhere, and the call's own one is not asked
         one.ask("brs 0 1,c00,7")
-        ask(one, "lookup echo")
-        one.tell("wait")
-        want(one.hear()[2].split(" (")[0], "receive phase from any thread: timeout")
+        want(ask(one, "lookup echo")[1], 0)
+        want(one.ask("wait")[2], "C12: a string or a buffer lies in memory that is not there")
         # a name whose thread has ended is gone, and another one may have it
         one.ask("disconnect")
         want(ask(two, "lookup echo")[1], 2)
@@ -109,6 +108,48 @@ def check_names(programs, l4d, l4sh, room, start):
         again.end()
         server.is_legal(l4sh)
         return count
+
+
+def check_names_again(programs, l4d, room, start):
+    """A server of l4_serve registers its name again with a name server that was started again, while nobody calls it and while calls come
+    without a pause; it tells once that there is none; one that is stopped holds it up for no long, and its late answer is no request."""
+    with Server(l4d, room) as server:
+        names = start(server.path)
+        pong = run_example(room, programs["pingpong"], server.dir, "pong", waits="pingpong is 2.1 (registered)")
+        asker, caller = (Say(programs["say"], server.dir, number) for number in (10, 11))
+        call = lambda: caller.ipc(to=thread_id(2), source=thread_id(2), label=3, words=(1, 2))
+        for is_busy in (False, True):
+            names.end()
+            wait_until_gone(asker, names.thread)
+            began = time.time()
+            while is_busy and time.time() - began < 6:
+                assert call()[4] == "1,2"
+            names = start(server.path)
+            asker.tell("lookup_wait 20000000 pingpong")
+            while is_busy and not select.select([asker.process.stdout], [], [], 0)[0]:
+                assert call()[4] == "1,2"
+            assert asker.hear()[0] == f"{thread_id(2):x}", "the name was not registered again"
+        process = getattr(names, "process", None)
+        if process:
+            os.kill(process.pid, signal.SIGSTOP)
+            began, longest = time.time(), 0
+            while time.time() - began < 6.5:
+                before = time.time()
+                assert call()[4] == "1,2"
+                longest = max(longest, time.time() - before)
+            assert 0.2 < longest < 2, f"a call took {longest} seconds beside a name server that is stopped"
+            os.kill(process.pid, signal.SIGCONT)
+            assert asker.ask("lookup pingpong")[0] == f"{thread_id(2):x}"
+            assert call()[4] == "1,2"
+        pong.kill()
+        told = re.findall(r"l4_serve: (.*)", pong.communicate(timeout=SECONDS)[1])
+        wanted = [r"the name pingpong could not be registered again, and is tried again: N6: there is no name server \(pingpong\)$"]
+        wanted += [r"the name pingpong could not be registered again, and is tried again: (send|receive) phase (to|from) 255\.3: timeout"] if process else []
+        assert len(told) == len(wanted) and all(map(re.match, wanted, told)), told
+        names.end()
+        asker.end()
+        caller.end()
+        return 4 if process else 2
 
 
 def run_example(room, name, *words, waits=None):

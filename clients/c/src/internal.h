@@ -19,6 +19,8 @@ enum {
 	/* a frame before its body, and with the kind with which the body begins */
 	LENGTH_BYTES = 4,
 	HEAD_BYTES = LENGTH_BYTES + 1,
+	/* so many names of a thread l4_serve registers again */
+	KEPT_NAMES = 8,
 };
 
 /* Bits of tags and descriptors. */
@@ -75,6 +77,19 @@ struct told_moment {
 	L4_Word64_t moment;
 };
 
+/* The names that a thread has registered, for l4_serve to register them again. */
+struct kept {
+	size_t count;
+	char names[KEPT_NAMES][MAX_NAME_BYTES + 1];
+	/* the moment at which that is due, as l4_end_of has it */
+	int64_t due;
+	/* the last time failed, which is told once; and this is being told now */
+	bool has_failed;
+	bool is_told;
+	/* a name server whose answer was not waited for: it may come to any receive. L4_nilthread for none */
+	L4_ThreadId_t owing;
+};
+
 /* Which phases a call has, with whom, and how many of BR1 on are its buffers. */
 struct phases {
 	bool sends;
@@ -114,6 +129,7 @@ struct thread {
 	struct failure lost;
 	/* L4_nilthread: not looked for yet */
 	L4_ThreadId_t name_server;
+	struct kept kept;
 	char text[512];
 	/* the path that was connected to, and the name that was asked for */
 	char path[MAX_PATH_BYTES + 1];
@@ -153,6 +169,15 @@ void l4_close(struct thread *thread);
 /* The moment, in milliseconds, at which a time that begins now is over; and whether it is not yet: then a while passed. */
 int64_t l4_end_of(L4_Time_t patience);
 bool l4_pause(int64_t until);
+/* How long it is until that moment: zero time where it is over. */
+L4_Time_t l4_time_until(int64_t until);
+
+/* names.c: */
+
+/* How long the thread may wait until its names are to be registered again: L4_Never where it has none, zero time for now. */
+L4_Time_t l4_names_patience(const struct thread *thread);
+/* Registers them again, for which it waits a short time each. 0, or -1 where one could not be registered; the rest were tried. */
+int l4_keep_names(struct thread *thread);
 
 /* schedule.c: what a period is worth; UINT64_MAX for L4_Never. */
 L4_Word64_t l4_microseconds(L4_Time_t time);

@@ -17,6 +17,11 @@ enum {
 	SERVER_NUMBER = 255,
 	/* versions are looked for up to here; after that a server's id has to be given */
 	LAST_VERSION = 63,
+	/* in microseconds, how long a name is kept before it is registered again, how long after that failed, and how long each
+	 * phase of such a call may take: a name server that is stopped keeps a server from its clients no longer */
+	KEPT_FOR = 5000000,
+	AGAIN_AFTER = 1000000,
+	KEEPING = 250000,
 	/* ErrorCode of a send to, and of a receive from, a thread that is not live */
 	NOBODY_TO_SEND_TO = E_NON_EXISTING_PARTNER << 1,
 	NOBODY_TO_RECEIVE_FROM = E_NON_EXISTING_PARTNER << 1 | 1,
@@ -62,19 +67,29 @@ static int find_server(struct thread *thread, L4_Word_t version)
 	return l4_refuse(thread, FOUND_HERE, 'N', N_NO_NAME_SERVER);
 }
 
+/* What is asked of the server, and how long each phase may take. */
+struct request {
+	enum label label;
+	const char *name;
+	L4_Time_t patience;
+};
+
 /* One call of the server. 0, or -1 as for each failed Ipc. */
-static int call(struct thread *thread, enum label label, const char *name, struct answer *answer)
+static int call(struct thread *thread, const struct request *request, struct answer *answer)
 {
 	L4_Msg_t msg;
 	L4_MsgTag_t tag;
 
 	L4_MsgClear(&msg);
-	L4_Set_MsgLabel(&msg, label);
-	L4_MsgAppendSimpleStringItem(&msg, L4_StringItem((int) strlen(name), (char *) name));
+	L4_Set_MsgLabel(&msg, request->label);
+	L4_MsgAppendSimpleStringItem(&msg, L4_StringItem((int) strlen(request->name), (char *) request->name));
 	L4_MsgLoad(&msg);
-	tag = L4_Call(thread->name_server);
-	if (L4_IpcFailed(tag))
+	tag = L4_Call_Timeouts(thread->name_server, request->patience, request->patience);
+	if (L4_IpcFailed(tag)) {
+		if (thread->last.source == OUTCOME && L4_ErrorCode() & 1)
+			thread->kept.owing = thread->name_server;
 		return -1;
+	}
 	L4_MsgStore(tag, &msg);
 	answer->error = L4_Label(tag);
 	answer->thread.raw = L4_UntypedWords(tag) > 0 ? L4_MsgWord(&msg, 0) : 0;
@@ -83,11 +98,11 @@ static int call(struct thread *thread, enum label label, const char *name, struc
 }
 
 /* The call, of the next server where the one that was known has ended. */
-static int call_live(struct thread *thread, enum label label, const char *name, struct answer *answer)
+static int call_live(struct thread *thread, const struct request *request, struct answer *answer)
 {
 	if (L4_IsNilThread(thread->name_server) && find_server(thread, 1) < 0)
 		return -1;
-	while (call(thread, label, name, answer) < 0) {
+	while (call(thread, request, answer) < 0) {
 		if (thread->last.source != OUTCOME || L4_ErrorCode() != NOBODY_TO_SEND_TO)
 			return -1;
 		if (find_server(thread, L4_Version(thread->name_server) + 1) < 0)
@@ -107,8 +122,9 @@ static bool is_name(const char *name)
 }
 
 /* A request, with a buffer for the answer's name in place of the caller's buffers. */
-static int ask(enum label label, const char *name, struct answer *answer)
+static int ask(enum label label, const char *name, L4_Time_t patience, struct answer *answer)
 {
+	const struct request request = { label, name, patience };
 	struct thread *thread = &l4_thread;
 	L4_Word_t buffers[BUFFER_REGISTERS];
 	L4_MsgBuffer_t buffer;
@@ -122,7 +138,7 @@ static int ask(enum label label, const char *name, struct answer *answer)
 	L4_MsgBufferClear(&buffer);
 	L4_MsgBufferAppendSimpleRcvString(&buffer, L4_StringItem(L4_NAME_BYTES, answer->name));
 	L4_AcceptStrings(L4_StringItemsAcceptor, &buffer);
-	status = call_live(thread, label, name, answer);
+	status = call_live(thread, &request, answer);
 	L4_LoadBRs(0, BUFFER_REGISTERS, buffers);
 	/* the server ended in midst of the call, or somebody cancelled it: no number of the system says that */
 	if (status < 0 && thread->last.source == OUTCOME)
@@ -138,11 +154,53 @@ static bool is_not_there_yet(const struct failure *failure)
 	return failure->class == 'N' && (failure->number == N_NO_NAME_SERVER || failure->number == N_NOBODY_HAS_NAME);
 }
 
+/* Keeps a name that was registered. */
+static void keep(struct kept *kept, const char *name)
+{
+	size_t at = 0;
+
+	while (at < kept->count && strcmp(kept->names[at], name) != 0)
+		at++;
+	if (at == KEPT_NAMES)
+		return;
+	if (at == kept->count)
+		strcpy(kept->names[kept->count++], name);
+	kept->due = l4_end_of(L4_TimePeriod(KEPT_FOR));
+}
+
 int l4_register(const char *name)
 {
 	struct answer answer = { 0 };
 
-	return ask(REGISTER, name, &answer);
+	if (ask(REGISTER, name, L4_Never, &answer) < 0)
+		return -1;
+	keep(&l4_thread.kept, name);
+	return 0;
+}
+
+L4_Time_t l4_names_patience(const struct thread *thread)
+{
+	return thread->kept.count == 0 ? L4_Never : l4_time_until(thread->kept.due);
+}
+
+int l4_keep_names(struct thread *thread)
+{
+	struct kept *kept = &thread->kept;
+	struct failure failure = { 0 };
+	struct answer answer = { 0 };
+	size_t failed = 0;
+
+	for (size_t i = 0; i < kept->count && thread->is_connected; i++)
+		if (ask(REGISTER, kept->names[i], L4_TimePeriod(KEEPING), &answer) < 0) {
+			failure = thread->last;
+			failed = i + 1;
+		}
+	kept->due = l4_end_of(L4_TimePeriod(failed ? AGAIN_AFTER : KEPT_FOR));
+	if (failed == 0)
+		return 0;
+	strcpy(thread->name, kept->names[failed - 1]);
+	thread->last = failure;
+	return -1;
 }
 
 L4_ThreadId_t l4_lookup_wait(const char *name, L4_Time_t patience)
@@ -160,7 +218,7 @@ L4_ThreadId_t l4_lookup(const char *name)
 {
 	struct answer answer = { 0 };
 
-	if (ask(LOOK_UP, name, &answer) < 0)
+	if (ask(LOOK_UP, name, L4_Never, &answer) < 0)
 		return L4_nilthread;
 	if (L4_IsNilThread(answer.thread))
 		(void) l4_refuse(&l4_thread, FOUND_HERE, 'N', N_NOBODY_HAS_NAME);
@@ -171,7 +229,7 @@ int l4_list(const char *after, char name[L4_NAME_BYTES + 1], L4_ThreadId_t *thre
 {
 	struct answer answer = { 0 };
 
-	if (ask(LIST, after, &answer) < 0)
+	if (ask(LIST, after, L4_Never, &answer) < 0)
 		return -1;
 	if (L4_IsNilThread(answer.thread))
 		return 0;

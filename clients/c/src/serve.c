@@ -15,7 +15,9 @@ enum { PAUSE = 100 };
 static void print_trouble(L4_ThreadId_t to, void *data)
 {
 	(void) data;
-	if (L4_IsNilThread(to))
+	if (l4_thread.kept.is_told)
+		fprintf(stderr, "l4_serve: the name %s could not be registered again, and is tried again: %s\n", l4_thread.name, l4_error());
+	else if (L4_IsNilThread(to))
 		fprintf(stderr, "l4_serve: a request did not come: %s\n", l4_error());
 	else
 		fprintf(stderr, "l4_serve: %llu.%llu got no answer: %s\n", (unsigned long long) L4_ThreadNo(to),
@@ -58,6 +60,39 @@ static L4_ThreadId_t have_answered(struct thread *thread, l4_answer_t answer, L4
 	return is_answered ? from : L4_nilthread;
 }
 
+/* Whether a receive was over for the names to be registered again. */
+static bool is_for_names(const struct failure *failure)
+{
+	return failure->source == OUTCOME && failure->code == (E_TIMEOUT << 1 | 1);
+}
+
+/* Registers the names again. That it fails is told once. */
+static void keep_names(struct thread *thread, l4_trouble_t trouble, void *data)
+{
+	struct kept *kept = &thread->kept;
+	bool fails = l4_keep_names(thread) < 0;
+
+	kept->is_told = fails && !kept->has_failed && thread->is_connected;
+	kept->has_failed = fails;
+	if (kept->is_told)
+		trouble(L4_nilthread, data);
+	kept->is_told = false;
+}
+
+/* Whether this is the answer that a name server owed: who answered it would be answered without an end. */
+static bool is_owed(struct kept *kept, L4_ThreadId_t from)
+{
+	if (!L4_IsThreadEqual(kept->owing, from))
+		return false;
+	kept->owing = L4_nilthread;
+	return true;
+}
+
+static L4_MsgTag_t reply_to(L4_ThreadId_t to)
+{
+	return L4_IsNilThread(to) ? L4_Niltag : L4_Reply(to);
+}
+
 int l4_serve(l4_answer_t answer, l4_trouble_t trouble, void *data)
 {
 	struct thread *thread = &l4_thread;
@@ -66,16 +101,22 @@ int l4_serve(l4_answer_t answer, l4_trouble_t trouble, void *data)
 	if (trouble == NULL)
 		trouble = print_trouble;
 	do {
-		L4_MsgTag_t tag = L4_ReplyWait(to, &from);
+		L4_Time_t patience = l4_names_patience(thread);
+		bool is_due = L4_IsTimeEqual(patience, L4_ZeroTime);
+		L4_MsgTag_t tag = is_due ? reply_to(to) : L4_ReplyWait_Timeout(to, patience, &from);
 
-		if (L4_IpcSucceeded(tag)) {
-			to = have_answered(thread, answer, from, tag, data);
-			continue;
+		if (L4_IpcFailed(tag)) {
+			if (!can_go_on(thread, &to))
+				return -1;
+			if (!is_for_names(&thread->last))
+				trouble(to, data);
+			to = L4_nilthread;
+		} else if (is_due) {
+			to = L4_nilthread;
+			keep_names(thread, trouble, data);
+		} else {
+			to = is_owed(&thread->kept, from) ? L4_nilthread : have_answered(thread, answer, from, tag, data);
 		}
-		if (!can_go_on(thread, &to))
-			return -1;
-		trouble(to, data);
-		to = L4_nilthread;
 	} while (thread->is_connected);
 	/* the functions ended the connection, or a call of theirs lost it */
 	return thread->lost.source == NOBODY ? 0 : l4_refuse(thread, FOUND_HERE, 'C', C_NOT_CONNECTED);

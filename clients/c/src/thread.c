@@ -3,6 +3,8 @@
 
 #include "internal.h"
 
+#include <l4/schedule.h>
+
 #include <errno.h>
 #include <limits.h>
 #include <poll.h>
@@ -133,6 +135,7 @@ static void begin(struct thread *thread, unsigned version)
 	thread->lost = (struct failure) { .source = NOBODY };
 	thread->virtual_sender = L4_nilthread;
 	thread->name_server = L4_nilthread;
+	thread->kept = (struct kept) { 0 };
 	thread->error_code = 0;
 	thread->br[0] = 0;
 }
@@ -159,6 +162,11 @@ static int left_until(int64_t until)
 	int64_t left = until == INT64_MAX ? INT_MAX : until - milliseconds();
 
 	return left < 0 ? 0 : left > INT_MAX ? INT_MAX : (int) left;
+}
+
+L4_Time_t l4_time_until(int64_t until)
+{
+	return L4_TimePeriod((L4_Word64_t) left_until(until) * 1000);
 }
 
 bool l4_pause(int64_t until)

@@ -13,12 +13,14 @@ L4_BEGIN_C_
 typedef L4_Bool_t (*l4_answer_t)(L4_ThreadId_t from, L4_MsgTag_t tag, void *data);
 
 /* Is told what failed, l4_error() says why: the answer to this thread did not go over, or where it is L4_nilthread a request
- * did not come whole, as one with a string that the buffers did not take. */
+ * did not come whole, as one with a string that the buffers did not take, or a name was not registered again. */
 typedef void (*l4_trouble_t)(L4_ThreadId_t to, void *data);
 
 /* Serves until the connection is lost, as where the server l4d ends: -1 with errno, l4_error() says why. 0 where the
  * functions called l4_disconnect. Answers go with send timeout zero, so a client that does not wait gets none, and is told
- * of as trouble. Where trouble is null a line on standard error tells it. A receive that can never be made (buffers that
+ * of as trouble. Where trouble is null a line on standard error tells it. The first 8 names that the thread got by
+ * l4_register are registered again every five seconds, so that a name server that was started again knows them; where that
+ * fails it is tried again each second, and told of once. A receive that can never be made (buffers that
  * are spoilt) ends it too, with -1; one that the server has no room for is tried again, ten times a second. */
 int l4_serve(l4_answer_t answer, l4_trouble_t trouble, void *data);
 

@@ -22,7 +22,7 @@ sys.path.insert(1, f"{sys.path[0]}/../lib")
 
 from c_client.building import build, check_headers, check_languages, check_library
 from c_client.calls import check_errors, check_faults, check_refusals, check_traffic
-from c_client.examples import L4xNames, check_examples, check_first_block, check_l4x, check_names, check_python, check_worst
+from c_client.examples import L4xNames, check_examples, check_first_block, check_l4x, check_names, check_names_again, check_python, check_worst
 from c_client.lives import check_long_life, check_threads, check_unix
 from c_client.played import check_plays, check_vectors
 from kit import ROOT
@@ -53,10 +53,10 @@ def main(arguments):
         print(f"l4d: {refusals} refusals and errors, {told} outcomes as in the trace, {faults} faults and errors", flush=True)
         outcomes, received = check_traffic(programs, l4d, l4sh, room, 400)
         print(f"traffic: {outcomes} outcomes as in the trace, {received} of them messages", flush=True)
-        asked = check_names(programs, l4d, l4sh, room, NameServer)
+        asked = check_names(programs, l4d, l4sh, room, NameServer) + check_names_again(programs, l4d, room, NameServer)
         if l4x:
             asked += check_names(programs, l4d, l4sh, room, lambda path: L4xNames(l4x, path)) + check_l4x(programs, l4d, l4sh, l4x, room)
-            asked += check_first_block(l4d, l4x, room)
+            asked += check_names_again(programs, l4d, room, lambda path: L4xNames(l4x, path)) + check_first_block(l4d, l4x, room)
         entries = [check_examples(programs, l4d, l4sh, room, plain) for plain in (True, False)]
         print(f"names: {asked} answers; examples: by name and by id, {sum(entries)} entries", flush=True)
         worst = check_worst(programs, l4d, room)

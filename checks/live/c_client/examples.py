@@ -137,7 +137,7 @@ def check_names_again(programs, l4d, room, start):
                 before = time.time()
                 assert call()[4] == "1,2"
                 longest = max(longest, time.time() - before)
-            assert 0.2 < longest < 2, f"a call took {longest} seconds beside a name server that is stopped"
+            assert 0.2 < longest < 3, f"a call took {longest} seconds beside a name server that is stopped"
             os.kill(process.pid, signal.SIGCONT)
             assert asker.ask("lookup pingpong")[0] == f"{thread_id(2):x}"
             assert call()[4] == "1,2"

@@ -153,7 +153,7 @@ typedef struct {
 } L4_MsgBuffer_t;
 
 void L4_MsgBufferClear(L4_MsgBuffer_t *b);
-/* What does not fit the 32 words, or is no string item, spoils the buffers: the receive that would use them fails (F5, C11). */
+/* What does not fit the 32 words, or is no such item, spoils the buffers: the receive that would use them fails (F5, C11). */
 void L4_MsgBufferAppendSimpleRcvString(L4_MsgBuffer_t *b, L4_StringItem_t s);
 void L4_MsgBufferAppendRcvString(L4_MsgBuffer_t *b, const L4_StringItem_t *s);
 

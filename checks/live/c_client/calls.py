@@ -150,6 +150,16 @@ def check_errors(programs, l4d, room):
             want(one.ask(f"buffer_in {pages}"), "^C12: a string or a buffer lies in memory")
         for pages in ("w", "ww", "www", "w" * 300, "w" * 300 + "x"):
             want(one.ask(f"buffer_in {pages}"), r"^receive phase from 9\.1: non-existing partner")
+        # a message that waits for such a receive is not lost: the next one gets it
+        sender = Say(programs["say"], server.dir, 6)
+        sender.tell_ipc(to=one.thread, strings=[[b"kept"]])
+        wait_until_waiting(one, sender.thread, 0x4)
+        one.ask("brs 0 1,1000,10")
+        want(one.ask("wait"), "^C12: a string or a buffer lies in memory")
+        got = one.ipc(source=ANY, buffers=[[8]])
+        assert (got[1], got[5]) == (sender.thread, f"x{b'kept'.hex()}"), got
+        assert sender.hear_ipc()[3] == 0
+        sender.end()
         # more substrings than the function takes, and a u or t that are not those of the words
         for line in ("compound", "compound_put", "compound_buffer", "put -1 0", "put 0 2", "put 0 -1", "put 1 1"):
             want(one.ask(line), "^C11: no string item, or not such as the function takes: ")

@@ -15,6 +15,7 @@ from kit import ROOT
 from name_server import NameServer
 from page_text import blocks_of
 from protocol_tables import MAX_NAME_BYTES, MAX_STRING_BYTES
+from traces import entries_in
 
 
 class L4xNames:
@@ -146,6 +147,9 @@ def check_names_again(programs, l4d, room, start):
         wanted = [r"the name pingpong could not be registered again, and is tried again: N6: there is no name server \(pingpong\)$"]
         wanted += [r"the name pingpong could not be registered again, and is tried again: (send|receive) phase (to|from) 255\.3: timeout"] if process else []
         assert len(told) == len(wanted) and all(map(re.match, wanted, told)), told
+        # it sends the name servers nothing but its name
+        calls = [fields for word, fields in entries_in(server.entries()) if word == "called" and fields[1] == "2.1" and fields[2].startswith("255.")]
+        assert len(calls) > 3 and {int(fields[5], 16) for fields in calls} == {0x10080}, calls[-3:]
         names.end()
         asker.end()
         caller.end()

@@ -107,7 +107,7 @@ class Aio(unittest.TestCase):
         for ends, others_go_on in ((ends_with, True), (ends_at_once, False), (ends_by_a_call, True), (ends_twice, True)):
             with Listener([WELCOME]) as there, patience(10):
                 there.listens()
-                worker = threading.Thread(target=lambda: enders.append(Ender(there.accepted(), 0.2)))
+                worker = threading.Thread(target=lambda: enders.append(Ender(there.accepted(), 0.5)))
                 enders = []
                 worker.start()
                 turns = asyncio.run(main(there.folder, ends))
@@ -128,7 +128,7 @@ class Aio(unittest.TestCase):
         with Listener([WELCOME]) as there, patience(0.3):
             began = time.monotonic()
             self.assertTrue(asyncio.run(main(there.listens().folder)))
-            self.assertTrue(0.3 <= time.monotonic() - began < 1)
+            self.assertTrue(0.3 <= time.monotonic() - began < 5)
 
     def test_the_end_while_another_coroutine_makes_a_call(self):
         async def does(thread):

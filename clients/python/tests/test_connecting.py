@@ -200,7 +200,7 @@ class Ending(unittest.TestCase):
             with patience(0.3):
                 thread.close()
                 thread.close()
-            self.assertTrue(0.3 <= time.monotonic() - began < 0.6)
+            self.assertTrue(0.3 <= time.monotonic() - began < 5)
             server.close()
 
     def test_it_raises_nothing(self):

@@ -27,9 +27,6 @@ pub(crate) trait Task {
     fn prints_early(&self) -> bool {
         false
     }
-
-    /// Takes note that nothing was read.
-    fn note_empty(&mut self) {}
 }
 
 /// Opens the file of a trace, or takes standard input for `-`, and does this with it.
@@ -66,9 +63,6 @@ fn look_at_input<T: Task, L: Ledger, R: Input + Eprint + Clock, W: PortWrite>(
     let kept = KeptPort::new(alloc, ReadPort::new(rt.reader(), reads));
     let mut reader = ToldPort::new(rt, kept, progress);
     let exit = task.perform(alloc, &mut reader, writer);
-    if reader.is_empty() {
-        task.note_empty();
-    }
     let kept = reader.into_port();
     with_reason(alloc, exit, Grammar::Trace, kept.tail())
 }
@@ -91,9 +85,6 @@ fn look_at_opened<T: Task, L: Ledger, R: Files + Eprint + Clock, W: PortWrite>(
     let kept = KeptPort::new(alloc, ReadPort::new(opened, reads));
     let mut reader = ToldPort::new(rt, kept, progress);
     let exit = task.perform(alloc, &mut reader, writer);
-    if reader.is_empty() {
-        task.note_empty();
-    }
     let kept = reader.into_port();
     match exit {
         Exit::DeviceFailed => device_failed(rt, alloc, file),

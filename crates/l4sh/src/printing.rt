@@ -76,10 +76,7 @@ impl Task for Printing<'_> {
 
 /// A trace is checked.
 #[derive(Clone, Copy)]
-struct Checking {
-    /// Whether nothing was read.
-    is_empty: bool,
-}
+struct Checking;
 
 impl Task for Checking {
     fn perform<R: PortRead, W: PortWrite>(
@@ -89,10 +86,6 @@ impl Task for Checking {
         writer: &mut W,
     ) -> Exit {
         Exit::from(check_trace(alloc, reader, writer))
-    }
-
-    fn note_empty(&mut self) {
-        self.is_empty = true;
     }
 }
 
@@ -104,24 +97,11 @@ pub(crate) fn check_of<L: Ledger, R: Files + Input + Eprint + Clock, W: PortWrit
     reads: Failures<L>,
     writer: &mut W,
 ) -> Ending {
-    let mut checking = Checking { is_empty: false };
     let ending = match files {
-        [file] => look(rt, alloc, *file, &mut checking, reads, writer),
+        [file] => look(rt, alloc, *file, &mut Checking, reads, writer),
         _ => check_files(rt, alloc, files, writer),
     };
-    match exit_alone(&ending) {
-        Some(Exit::Done) if checking.is_empty => of_nothing(alloc),
-        _ => check_begun(rt, alloc, files, ending, writer),
-    }
-}
-
-/// It ends well, and says that nothing was read. Without memory it does not say so.
-fn of_nothing(alloc: Global) -> Ending {
-    let reason = "l4sh: nothing was read: a trace without entries is legal";
-    Ending::Alone {
-        exit: Exit::Done,
-        reason: String::from_str(alloc, reason).ok(),
-    }
+    check_begun(rt, alloc, files, ending, writer)
 }
 
 /// Tells the state of the threads of a history, or of a live server where a folder is named.

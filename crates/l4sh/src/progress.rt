@@ -51,11 +51,6 @@ impl<'a, R: Clock + Eprint, P: PortRead> ToldPort<'a, R, P> {
         ToldPort { rt, port, progress }
     }
 
-    /// Whether nothing was read of it.
-    pub(crate) fn is_empty(&self) -> bool {
-        self.progress.amount.read == 0
-    }
-
     /// The port alone, once the line is gone.
     pub(crate) fn into_port(self) -> P {
         let ToldPort { rt, port, progress } = self;

@@ -145,7 +145,36 @@ where
         return ended(rt, &Exit::NoMemory);
     };
     let (calls, takes) = (Blank::new(PARTS), Blank::new(PARTS));
-    let ending = start::<Brand, Brand, _>(rt, alloc, options, readiness, calls, takes, log);
+    begin::<Brand, Brand, _>(rt, alloc, options, readiness, calls, takes, log)
+}
+
+/// Serves over a new kernel, and answers the status of the program by how that ended.
+fn begin<C: Naming + Send, T: Ledger + Send, R>(
+    rt: &R,
+    alloc: Global,
+    options: &ServerOptions<'_>,
+    readiness: Readiness,
+    calls: Blank,
+    takes: Blank,
+    log: BlankLog,
+) -> io::Result<ExitCode>
+where
+    R: Threads
+        + Wait
+        + Clock
+        + Files<File = File>
+        + TraceDisk
+        + Net<Listener = TcpListener, Stream = TcpStream>
+        + Print
+        + Eprint
+        + Sync,
+    requires calls_name { calls.name ≡ C.name }
+    requires calls_parts { (calls.parts ≡ C.parts) × (calls.parts ≡ 2 ^ 63) }
+    requires takes_name { takes.name ≡ T.name }
+    requires takes_parts { (takes.parts ≡ T.parts) × (takes.parts ≡ 2 ^ 63) }
+    requires log_tables { log ≡ C.tables }
+{
+    let ending = start::<C, T, R>(rt, alloc, options, readiness, calls, takes, log);
     status_of(rt, &ending)
 }
 

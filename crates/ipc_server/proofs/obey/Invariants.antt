@@ -1,10 +1,10 @@
 use Rattle.ipc_server.proofs.obey.Given as goal
 
-abbrev pub ghosts-start-C-Ledger : goal.ghosts-start-C-Ledger
-ghosts-start-C-Ledger g a = record { name = a.calls.name; parts = a.calls.parts }
+abbrev pub ghosts-begin-C-Ledger : goal.ghosts-begin-C-Ledger
+ghosts-begin-C-Ledger g a = record { name = a.calls.name; parts = a.calls.parts }
 
-abbrev pub ghosts-start-T-Ledger : goal.ghosts-start-T-Ledger
-ghosts-start-T-Ledger g a = record { name = a.takes.name; parts = a.takes.parts }
+abbrev pub ghosts-begin-T-Ledger : goal.ghosts-begin-T-Ledger
+ghosts-begin-T-Ledger g a = record { name = a.takes.name; parts = a.takes.parts }
 
-abbrev pub ghosts-start-C-Naming : goal.ghosts-start-C-Naming
-ghosts-start-C-Naming g a = record { tables = a.log }
+abbrev pub ghosts-begin-C-Naming : goal.ghosts-begin-C-Naming
+ghosts-begin-C-Naming g a = record { tables = a.log }

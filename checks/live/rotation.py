@@ -328,14 +328,19 @@ def check_asked_for(l4d, l4sh):
         tally.same("there is one older file", [os.path.basename(file) for file in chain(server.trace)], ["trace.1", "trace"])
         tally.same("l4sh rotate", rotated(l4sh, server), (0, "the next entries end the file\n", ""))
         pair_works(pair)
-        for client in pair:
-            client.bye()
-        tally.same("it ends well", server.end()[:2], (0, "closed\n"))
-        entries = check_chain(l4sh, server.trace, room)
-        tally.same("all messages are there", count_of(entries, "ended"), 3)
+        ends_with_three(l4sh, server, pair, room)
         tally.same("there are two older files", [os.path.basename(file) for file in chain(server.trace)], ["trace.2", "trace.1", "trace"])
     with Server(l4d) as server:
         check_not_rotated("without a trace", l4sh, server, "no trace: start l4d with --trace FILE\n")
+
+
+def ends_with_three(l4sh, server, pair, room):
+    """Both clients say BYE, the server ends, and its files have the three messages that were sent."""
+    for client in pair:
+        client.bye()
+    tally.same("it ends well", server.end()[:2], (0, "closed\n"))
+    entries = check_chain(l4sh, server.trace, room)
+    tally.same("all messages are there", count_of(entries, "ended"), 3)
 
 
 def check_not_rotated(what, l4sh, server, said):
@@ -364,11 +369,7 @@ def check_moved(l4d, l4sh):
         pair_works(pair)
         time.sleep(0.3)
         pair_works(pair)
-        for client in pair:
-            client.bye()
-        tally.same("it ends well", server.end()[:2], (0, "closed\n"))
-        entries = check_chain(l4sh, server.trace, room)
-        tally.same("all messages are there", count_of(entries, "ended"), 3)
+        ends_with_three(l4sh, server, pair, room)
         tally.same("there is one older file", [os.path.basename(file) for file in chain(server.trace)], ["trace.1", "trace"])
 
 

@@ -5,6 +5,11 @@ use crate::exit::Exit;
 use crate::services::AllServed;
 use ipc_host::SocketPort;
 use ipc_lock::Naming;
+use std::io;
+use std::process::ExitCode;
+
+/// The status of a server that did not end as it was asked to.
+const FAILURE: u8 = 1;
 
 /// How the server ended. Where it ended well it served all connections that it had.
 #[derive(Drop)]
@@ -47,4 +52,19 @@ impl<C: Naming> Ending<C> {
             Ending::Failed(exit) => Ending::Failed(exit),
         }
     }
+}
+
+/// The status of the program, which says why it failed where it did.
+pub(crate) fn status_of<C: Naming, R: Eprint>(rt: &R, ending: &Ending<C>) -> io::Result<ExitCode> {
+    match ending {
+        Ending::Closed(_) => Ok(ExitCode::from(0)),
+        Ending::Untraced(_) => Ok(ExitCode::from(FAILURE)),
+        Ending::Failed(exit) => ended(rt, exit),
+    }
+}
+
+/// Says on standard error why the server failed, and answers its status.
+pub(crate) fn ended<R: Eprint>(rt: &R, exit: &Exit) -> io::Result<ExitCode> {
+    rt.eprintln(exit)?;
+    Ok(ExitCode::from(FAILURE))
 }

@@ -36,7 +36,7 @@ mod traced;
 mod tracing;
 mod working;
 
-use ending::Ending;
+use ending::{Ending, ended, status_of};
 use exit::Exit;
 use followers::Followers;
 use host::{Bound, Host};
@@ -76,9 +76,6 @@ const PROBE_CONNECTIONS: u64 = 2;
 
 /// How many descriptors standard input, output and error take, a trace, and files that are read.
 const OTHER_DESCRIPTORS: u64 = 8;
-
-/// The status of a server that did not end as it was asked to.
-const FAILURE: u8 = 1;
 
 /// How many microseconds a second has.
 const SECOND: u64 = 1_000_000;
@@ -400,19 +397,4 @@ fn most_connections<R: Files>(rt: &R, alloc: Global, options: &ServerOptions<'_>
 /// How long a connection has for its HELLO, in microseconds.
 fn within(options: &ServerOptions<'_>) -> u64 {
     u64::from(options.hello_within) * SECOND
-}
-
-/// The status of the program, which says why it failed where it did.
-fn status_of<C: Naming, R: Eprint>(rt: &R, ending: &Ending<C>) -> io::Result<ExitCode> {
-    match ending {
-        Ending::Closed(_) => Ok(ExitCode::from(0)),
-        Ending::Untraced(_) => Ok(ExitCode::from(FAILURE)),
-        Ending::Failed(exit) => ended(rt, exit),
-    }
-}
-
-/// Says on standard error why the server failed, and answers its status.
-pub(crate) fn ended<R: Eprint>(rt: &R, exit: &Exit) -> io::Result<ExitCode> {
-    rt.eprintln(exit)?;
-    Ok(ExitCode::from(FAILURE))
 }

@@ -1,5 +1,5 @@
 //! What words ask to be told: help, the version, and what is wrong with them.
-use crate::ended;
+use crate::ending::ended;
 use crate::exit::Exit;
 use clap::error::ErrorKind;
 use l4sh_options::{mistake_text, server_options, tell_version};

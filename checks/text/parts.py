@@ -253,6 +253,42 @@ def faults_of_moved(files):
         yield f"alone behind a string: {told}"
 
 
+# what each script leaves when it ends, and whether its outcomes count as untaken there
+IDLE = (
+    ("a client that was answered twice, and then calls nobody", False, """
+        open 1 1; open 2 1; wait 1; ask 2 1; answer 1 2; ask 2 1; answer 1 2; call 2.1 9.1 nil 0x0 0x0 nil - - -"""),
+    ("a client that was there before its server waited", False, "open 1 1; open 2 1; ask 2 1; wait 1; answer 1 2; take 2.1"),
+    ("a message that the call before the last one received", True, """
+        open 1 1; open 2 1; open 3 1; wait 1; ask 3 1; answer 1 3; ask 2 1; answer 1 2; call 2.1 9.1 nil 0x0 0x0 nil - - -"""),
+    ("a client that was answered between two others", True, """
+        open 1 1; open 2 1; open 3 1; open 4 1; wait 1; ask 2 1; ask 3 1; ask 4 1; answer 1 2; answer 1 3; answer 1 4; call 3.1 9.1 nil 0x0 0x0 nil - - -"""),
+    ("a call that was too late for a thread that has ended since", True, "open 1 1; open 2 1; call 1.1 2.1 nil 0x4000000 0x0 nil - - -; broke 2.1"),
+)
+
+
+def commands_of(script):
+    """The commands of such a script: whoever calls takes its outcome before."""
+    for words in (it.split() for it in script.split(";")):
+        me, partner = f"{words[1]}.1", f"{words[-1]}.1"
+        calls = {"wait": (me, "nil", "any"), "ask": (me, partner, partner), "answer": (me, partner, "any")}
+        if words[0] in calls:
+            yield f"take {me}"
+            words = ["call", *calls[words[0]], "0x4000000" if words[0] == "answer" else "0x0", "0x0", "nil", "-", "-", "-"]
+        elif words[0] == "call":
+            yield f"take {words[1]}"
+        yield " ".join(words)
+
+
+def faults_of_idle(files):
+    """What is wrong with the part that begins behind such a script, where it stands alone."""
+    for name, untaken, script in IDLE:
+        trace = trace_of(ended([files.l4sh, "run"], "".join(f"{it}\n" for it in commands_of(script)).encode())[0])
+        begun = files.part(trace, untaken=untaken)
+        told = begun and files.check(begun)
+        if told != (b"yes from 0\n", 0, b""):
+            yield f"alone behind {name}: {told}"
+
+
 def main():
     l4sh = sys.argv[1] if len(sys.argv) > 1 else f"{ROOT}/l4sh"
     passed = failed = alone = found = 0
@@ -277,7 +313,7 @@ def main():
             for fault in faults[:5]:
                 print(f"{name}: {fault}")
             passed, failed = (passed, failed + 1) if faults else (passed + 1, failed)
-        for fault in faults_of_moved(files):
+        for fault in [*faults_of_moved(files), *faults_of_idle(files)]:
             print(fault)
             failed += 1
     if found < FOUND * alone:

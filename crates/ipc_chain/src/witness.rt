@@ -3,13 +3,17 @@
 ghost use Rattle.std.specs.Prelude.{IfOk, IsTrue, OnOk};
 ghost use Rattle.ipc_chain.specs.Judging.{IsFirstFile};
 
+mod allotment;
 mod budget;
 mod calls;
 mod ending;
 mod fillers;
 mod guide;
+mod hosts;
+mod messages;
 mod plan;
 mod wanted;
+mod windows;
 
 use crate::chain::Chain;
 use guide::{Guide, Turn};

@@ -1,10 +1,13 @@
-// The calls that a part counts and does not keep: who made them, and by when they are to be made.
-use super::plan::Step;
+// The calls that a part counts and does not keep: how many of them each thread has to make.
 use super::wanted::Wanted;
 use ipc_history::{Entry, Input};
-use ipc_words::limits::{MAX_THREAD_NUMBER, TABLE_SLOTS};
-use ipc_words::{ThreadId, next_version};
+use ipc_words::ThreadId;
+use ipc_words::limits::TABLE_SLOTS;
 use std::alloc::{AllocError, Global};
+
+/// All threads that have ended at the end, as one maker of calls. A thread that lives then is the
+/// maker of its number.
+pub(super) const OTHERS: usize = 0;
 
 /// How many calls are left to be made of those that are not kept.
 #[derive(Drop)]
@@ -13,11 +16,6 @@ pub(super) struct Budget {
     numbers: Vec<Own>,
     /// Of threads that have ended.
     others: u64,
-    /// The step before which those of threads that have ended are made; none where a thread can be
-    /// there at the end that is to end.
-    closing: Option<usize>,
-    /// The number of the first call behind it.
-    closing_call: u64,
 }
 
 /// Of a thread number.
@@ -29,19 +27,15 @@ struct Own {
     left: u64,
     /// The number of its kept call that is open at the end, or is not taken.
     last: u64,
-    /// That of its next kept call, before which it is free.
-    next: u64,
 }
 
 impl Budget {
     /// All calls that are not kept.
-    pub fn new(alloc: Global, wanted: Wanted<'_>, steps: &[Step]) -> Result<Budget, AllocError> {
+    pub fn new(alloc: Global, wanted: Wanted<'_>) -> Result<Budget, AllocError> {
         let end = wanted.base.calls().saturating_add(1);
         let mut budget = Budget {
             numbers: Vec::with_capacity(alloc, TABLE_SLOTS)?,
             others: wanted.base.calls(),
-            closing: None,
-            closing_call: end,
         };
         for number in 0..TABLE_SLOTS {
             budget.count(wanted, number, end)?;
@@ -49,17 +43,6 @@ impl Budget {
         for entry in wanted.kept {
             budget.note(wanted, entry);
         }
-        for entry in wanted.kept {
-            if let Entry::Given(Input::Opened(thread, _)) = entry {
-                budget.set_next(wanted, 0, *thread);
-            }
-        }
-        for step in steps {
-            if let Step::Receive(receipt) = step {
-                let _ = budget.take(receipt.thread);
-            }
-        }
-        budget.close(wanted, steps);
         Ok(budget)
     }
 
@@ -74,7 +57,6 @@ impl Budget {
             lasting: ThreadId::NILTHREAD,
             left,
             last: end,
-            next: end,
         })?;
         Ok(())
     }
@@ -100,80 +82,26 @@ impl Budget {
         }
     }
 
-    /// Notes the next kept calls of a thread, of those from a place on.
-    pub fn set_next(&mut self, wanted: Wanted<'_>, place: usize, thread: ThreadId) {
-        let end = wanted.base.calls().saturating_add(1);
-        if let Some(own) = self.numbers.get_mut(thread.number() as usize) {
-            own.next = wanted.call_from(place, thread).unwrap_or(end);
-        }
-    }
-
     fn set_last(&mut self, caller: ThreadId, number: u64) {
         if let Some(own) = self.numbers.get_mut(caller.number() as usize) {
             own.last = number;
         }
     }
 
-    /// Finds the step before which the calls of threads that have ended are made.
-    fn close(&mut self, wanted: Wanted<'_>, steps: &[Step]) {
-        if self.has_open_end(wanted) {
-            return;
-        }
-        for at in (0..steps.len()).rev() {
-            let Step::Kept(place) = steps[at] else {
-                continue;
-            };
-            let Some(entry) = wanted.kept.get(place) else {
-                continue;
-            };
-            match entry {
-                Entry::Given(Input::Called(number, _, _)) => self.closing_call = *number,
-                _ if closes(wanted, place, entry) => {
-                    self.closing = Some(at);
-                    return;
-                }
-                _ => {}
-            }
-        }
-    }
-
-    /// Whether a thread can be there at the end that is to end.
-    fn has_open_end(&self, wanted: Wanted<'_>) -> bool {
-        for number in 1..=MAX_THREAD_NUMBER {
-            let before = wanted.version_before(wanted.kept.len(), number);
-            if !self.has_lasting(number) && before < wanted.version(number) {
-                return true;
-            }
-        }
-        false
-    }
-
-    fn has_lasting(&self, number: u32) -> bool {
-        match self.numbers.get(number as usize) {
-            Some(own) => own.lasting != ThreadId::NILTHREAD,
-            None => false,
-        }
-    }
-}
-
-/// Whether before an entry a thread can be there that is to end with it.
-fn closes(wanted: Wanted<'_>, place: usize, entry: &Entry) -> bool {
-    match entry {
-        Entry::Given(Input::Opened(thread, _)) => {
-            let before = wanted.version_before(place, thread.number());
-            next_version(before) != Some(thread.version())
-        }
-        Entry::Given(Input::Broke(_)) => true,
-        _ => false,
-    }
-}
-
-impl Budget {
     /// Whether a thread lives at the end.
     pub fn lasts(&self, thread: ThreadId) -> bool {
         match self.numbers.get(thread.number() as usize) {
             Some(own) => own.lasting == thread,
             None => false,
+        }
+    }
+
+    /// As which maker of calls a thread counts.
+    pub fn maker_of(&self, thread: ThreadId) -> usize {
+        if self.lasts(thread) {
+            thread.number() as usize
+        } else {
+            OTHERS
         }
     }
 
@@ -185,41 +113,17 @@ impl Budget {
         }
     }
 
-    /// How many calls a thread has to make.
-    pub fn left(&self, thread: ThreadId) -> u64 {
-        match self.numbers.get(thread.number() as usize) {
-            Some(own) if own.lasting == thread => own.left,
+    /// How many calls a maker has to make.
+    pub fn left(&self, maker: usize) -> u64 {
+        match self.numbers.get(maker) {
+            Some(own) if maker != OTHERS => own.left,
             _ => self.others,
         }
     }
 
-    /// How many calls threads have to make that are to end.
-    pub fn others(&self) -> u64 {
-        self.others
-    }
-
-    /// The number of the call before which a thread has to make its calls, or as many as there is
-    /// time for.
-    pub fn limit(&self, thread: ThreadId) -> u64 {
-        match self.numbers.get(thread.number() as usize) {
-            Some(own) if own.lasting == thread => own.next,
-            _ => self.closing_call,
-        }
-    }
-
-    /// The number of the call before which threads have to make their calls that are to end.
-    pub fn others_limit(&self) -> u64 {
-        self.closing_call
-    }
-
-    /// Whether threads that are to end have to make their calls before a step.
-    pub fn closes_at(&self, step: usize) -> bool {
-        self.closing == Some(step) && self.others > 0
-    }
-
     /// One call less is left of a thread; false where none was.
     pub fn take(&mut self, thread: ThreadId) -> bool {
-        if self.left(thread) == 0 {
+        if self.left(self.maker_of(thread)) == 0 {
             return false;
         }
         if self.lasts(thread) {

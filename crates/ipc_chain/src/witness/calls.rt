@@ -26,16 +26,17 @@ pub(super) fn sending_call(
     entered(alloc, number, caller, fields)
 }
 
-/// A call that receives the message of another one from a thread.
+/// A call that receives the message of another one from a thread, behind one that it sends.
 pub(super) fn receiving_call(
     alloc: Global,
     number: u64,
     caller: ThreadId,
+    to: ThreadId,
     from: ThreadId,
     message: &Call,
 ) -> Result<Entry, AllocError> {
     let buffers = buffers_for(alloc, message.strings())?;
-    let fields = fields(alloc, ThreadId::NILTHREAD, from, Some(buffers));
+    let fields = fields(alloc, to, from, Some(buffers));
     entered(alloc, number, caller, fields)
 }
 

@@ -40,29 +40,41 @@ impl Guide<'_> {
 
     /// A call that receives gets a message of a thread that has calls to make.
     fn answer(&mut self, slots: &Slots, call: &Standing) -> Result<Option<Entry>, AllocError> {
-        if !is_receiving(call) || self.room(slots) == 0 {
+        if !is_receiving(call) {
             return Ok(None);
         }
         for number in 1..TABLE_SLOTS {
             if let Some(thread) = live(slots, number) {
-                if self.can_answer(slots, thread, call) && self.budget.take(thread) {
-                    let next = slots.calls_made().saturating_add(1);
-                    return Ok(Some(sending_call(self.alloc, next, thread, call.caller)?));
+                if self.can_answer(slots, thread, call) && self.spend(thread) {
+                    return Ok(Some(self.send(slots, thread, call)?));
+                }
+            }
+        }
+        for number in 1..TABLE_SLOTS {
+            if let Some(thread) = live(slots, number) {
+                if self.can_answer(slots, thread, call) && self.spend_now(thread)? {
+                    return Ok(Some(self.send(slots, thread, call)?));
                 }
             }
         }
         Ok(None)
     }
 
+    /// A thread sends a message to a call that receives.
+    fn send(&self, slots: &Slots, thread: ThreadId, call: &Standing) -> Result<Entry, AllocError> {
+        let next = slots.calls_made().saturating_add(1);
+        sending_call(self.alloc, next, thread, call.caller)
+    }
+
     /// Whether a live thread may send a message to a call that receives.
     fn can_answer(&self, slots: &Slots, thread: ThreadId, call: &Standing) -> bool {
         is_free(slots, thread)
-            && self.budget.left(thread) > 0
+            && self.budget.left(self.budget.maker_of(thread)) > 0
             && (call.awaited == ThreadId::ANYTHREAD || call.awaited == thread)
     }
 
     /// What brings an output that is kept and does not come by itself.
-    pub(super) fn bring(&self, slots: &Slots, output: &Output) -> Turn {
+    pub(super) fn bring(&mut self, slots: &Slots, output: &Output) -> Result<Turn, AllocError> {
         match output {
             Output::Failed(number, code) => self.fail(slots, *number, *code),
             Output::Aborted(sending, _, _) => self.fail(
@@ -70,14 +82,14 @@ impl Guide<'_> {
                 *sending,
                 IpcError::cancelled(Phase::Send),
             ),
-            _ => Turn::Lost,
+            _ => Ok(Turn::Lost),
         }
     }
 
     /// What brings the failure of an open call.
-    fn fail(&self, slots: &Slots, number: u64, code: IpcError) -> Turn {
+    fn fail(&mut self, slots: &Slots, number: u64, code: IpcError) -> Result<Turn, AllocError> {
         let Some(call) = open_call(slots, number) else {
-            return Turn::Lost;
+            return Ok(Turn::Lost);
         };
         let entry = match code.kind() {
             Some(ErrorKind::Cancelled) => match cancel(slots, call.caller) {
@@ -87,23 +99,27 @@ impl Guide<'_> {
                 }
                 None => None,
             },
-            Some(ErrorKind::NonExistingPartner) => self.end_partner(slots, &call),
+            Some(ErrorKind::NonExistingPartner) => return self.end_partner(slots, &call),
             _ => None,
         };
         match entry {
-            Some(entry) => Turn::Entry(entry),
-            None => Turn::Lost,
+            Some(entry) => Ok(Turn::Entry(entry)),
+            None => Ok(Turn::Lost),
         }
     }
 
-    /// The partner of an open call ends, where it is to end.
-    fn end_partner(&self, slots: &Slots, call: &Standing) -> Option<Entry> {
+    /// The partner of an open call ends, where it is to end: then it makes no more calls.
+    fn end_partner(&mut self, slots: &Slots, call: &Standing) -> Result<Turn, AllocError> {
         let partner = call.partner();
-        if slots.is_live(partner) && !self.budget.lasts(partner) {
-            Some(Entry::Given(Input::Broke(partner)))
-        } else {
-            None
+        if !slots.is_live(partner) || self.budget.lasts(partner) {
+            return Ok(Turn::Lost);
         }
+        if self.has_others() {
+            if let Some(turn) = self.next_of_others(slots)? {
+                return Ok(turn);
+            }
+        }
+        Ok(Turn::Entry(Entry::Given(Input::Broke(partner))))
     }
 }
 

@@ -1,6 +1,6 @@
 // Threads that live only for a while: those of versions of which a part keeps nothing.
 use super::guide::{Guide, Turn, live};
-use ipc_history::{Entry, Input};
+use ipc_history::{Call, Entry, Input};
 use ipc_threads::Slots;
 use ipc_words::ThreadId;
 use ipc_words::limits::MAX_THREAD_NUMBER;
@@ -32,21 +32,16 @@ impl Guide<'_> {
 
     /// The calls of threads that are to end, where they can not be made later.
     pub(super) fn end_others(&mut self, slots: &Slots) -> Result<Option<Turn>, AllocError> {
-        if self.is_closing() && self.room(slots) > 0 {
-            return Ok(Some(self.fill(slots)?));
+        if self.is_closing() {
+            self.next_of_others(slots)
+        } else {
+            Ok(None)
         }
-        Ok(None)
     }
 
     /// A thread opens that is to end, and can make calls.
-    pub(super) fn open_other(&mut self, slots: &Slots) -> Turn {
-        if self.budget.others() == 0 {
-            return Turn::Lost;
-        }
-        match self.spare(slots, self.wanted.space()) {
-            Some(entry) => Turn::Entry(entry),
-            None => Turn::Lost,
-        }
+    pub(super) fn open_other(&self, slots: &Slots) -> Option<Turn> {
+        Some(Turn::Entry(self.spare(slots, self.wanted.space())?))
     }
 
     /// A thread opens in a space that is to end.
@@ -92,11 +87,34 @@ impl Guide<'_> {
             };
         }
         match slots.next_version_of(number) {
-            Some(version) if version <= thread.version() => {
-                opening(number, version, self.space_of(slots, beside))
-            }
+            Some(version)
+                if version <= thread.version() && thread.version() <= self.wanted.version(number) =>
+                { opening(number, version, self.space_of(slots, beside)) }
             _ => None,
         }
+    }
+
+    /// A thread opens for which a kept call is to wait, and that is to end.
+    pub(super) fn open_partner(
+        &self,
+        slots: &Slots,
+        place: usize,
+        number: u64,
+        call: &Call,
+    ) -> Option<Turn> {
+        let lack = self.wanted.lack_of(number);
+        if call.to() != ThreadId::NILTHREAD {
+            if lack == Some(place) {
+                return None;
+            }
+            if let Some(entry) = self.open_for(slots, call.to(), call.to()) {
+                return Some(Turn::Entry(entry));
+            }
+        }
+        if lack.is_some() || self.wanted.is_over(number) {
+            return None;
+        }
+        Some(Turn::Entry(self.open_for(slots, call.from(), call.from())?))
     }
 
     /// The space of a thread where it is live.

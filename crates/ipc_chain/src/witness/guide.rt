@@ -1,7 +1,9 @@
 // What comes next of a history that is to end as a part says.
+use super::allotment::Allotment;
 use super::budget::Budget;
-use super::calls::{copied, empty_call, receiving_call};
-use super::plan::{Receipt, Step, plan};
+use super::calls::{copied, receiving_call};
+use super::messages::Pair;
+use super::plan::{Plan, Receipt, Step, make_plan};
 use super::wanted::Wanted;
 use ipc_history::{Call, Entry, Input, Output};
 use ipc_threads::{Phase, Slots, Standing};
@@ -25,27 +27,29 @@ pub(super) enum Turn {
     Done,
 }
 
-/// A call that was made to wait for the message of a kept one.
-#[derive(Clone, Copy)]
-struct Waiter {
-    number: u64,
-    sending: usize,
-}
-
 /// Where the search for a history stands.
 #[derive(Drop)]
 pub(super) struct Guide<'a> {
     pub(super) alloc: Global,
     pub(super) wanted: Wanted<'a>,
     pub(super) budget: Budget,
+    /// Who makes which of the calls that are left.
+    pub(super) allotment: Allotment,
+    /// How many of them nobody can make, as far as the kept entries tell.
+    pub(super) missing: u64,
+    /// At each place among the kept entries, whether a thread can be there that is to end.
+    others: Vec<bool>,
     steps: Vec<Step>,
     /// The step that comes next.
     at: usize,
     /// How many kept entries have come.
     pub(super) passed: usize,
-    waiters: Vec<Waiter>,
+    /// How many kept calls have come.
+    pub(super) gap: usize,
+    /// The calls that wait for the messages of kept ones.
+    waiters: Vec<Pair>,
     /// Who makes the calls that are left, up to the next step.
-    host: Option<ThreadId>,
+    pub(super) host: Option<ThreadId>,
     /// Whether no call is to be ended, unless something comes.
     is_settled: bool,
     /// The thread numbers below it are at their end.
@@ -57,16 +61,26 @@ pub(super) struct Guide<'a> {
 impl<'a> Guide<'a> {
     /// Before the first entry.
     pub fn new(alloc: Global, wanted: Wanted<'a>) -> Result<Guide<'a>, AllocError> {
-        let steps = plan(alloc, wanted)?;
-        let budget = Budget::new(alloc, wanted, &steps)?;
+        let Plan {
+            budget,
+            steps,
+            pairs,
+            allotment,
+            missing,
+            others,
+        } = make_plan(alloc, wanted)?;
         Ok(Guide {
             alloc,
             wanted,
             budget,
+            allotment,
+            missing,
+            others,
             steps,
             at: 0,
             passed: 0,
-            waiters: Vec::new(alloc),
+            gap: 0,
+            waiters: pairs,
             host: None,
             is_settled: false,
             ended: 1,
@@ -111,8 +125,8 @@ impl<'a> Guide<'a> {
     fn pass(&mut self, place: usize) {
         self.passed = place.saturating_add(1);
         let wanted = self.wanted;
-        if let Some(Entry::Given(Input::Called(_, caller, _))) = wanted.kept.get(place) {
-            self.budget.set_next(wanted, self.passed, *caller);
+        if let Some(Entry::Given(Input::Called(_, _, _))) = wanted.kept.get(place) {
+            self.gap = self.gap.saturating_add(1);
         }
         self.go_on();
     }
@@ -146,8 +160,11 @@ impl<'a> Guide<'a> {
             return Ok(Turn::Lost);
         };
         let before = match entry {
-            Entry::Written(output) => Some(self.bring(slots, output)),
-            Entry::Given(Input::Called(number, _, _)) => self.reach(slots, *number)?,
+            Entry::Written(output) => Some(self.bring(slots, output)?),
+            Entry::Given(Input::Called(number, _, call)) => match self.reach(slots, *number)? {
+                Some(turn) => Some(turn),
+                None => self.open_partner(slots, place, *number, call.call()),
+            },
             Entry::Given(Input::Opened(thread, space)) => { self.make_way(slots, *thread, *space)? }
             Entry::Given(Input::Broke(_)) => self.end_others(slots)?,
             Entry::Given(_) => None,
@@ -173,71 +190,6 @@ impl<'a> Guide<'a> {
         }
     }
 
-    /// A call that a part counts and does not keep, or a thread that can make it.
-    pub(super) fn fill(&mut self, slots: &Slots) -> Result<Turn, AllocError> {
-        let host = match self.host {
-            Some(host) if is_free(slots, host) && self.budget.left(host) > 0 => Some(host),
-            _ => self.choose(slots),
-        };
-        match host {
-            Some(host) => {
-                self.host = Some(host);
-                self.call(slots, host)
-            }
-            None => Ok(self.open_other(slots)),
-        }
-    }
-
-    /// A thread makes a call that is over at once.
-    fn call(&mut self, slots: &Slots, host: ThreadId) -> Result<Turn, AllocError> {
-        if !self.budget.take(host) {
-            return Ok(Turn::Lost);
-        }
-        let next = slots.calls_made().saturating_add(1);
-        Ok(Turn::Entry(empty_call(self.alloc, next, host)?))
-    }
-
-    /// Who makes the next call that is not kept: who has the least time for it, of those that are
-    /// free.
-    fn choose(&self, slots: &Slots) -> Option<ThreadId> {
-        let mut best = None;
-        for number in 1..TABLE_SLOTS {
-            best = self.sooner(slots, best, live(slots, number));
-        }
-        let best = best?;
-        if self.has_time(best) {
-            Some(best)
-        } else {
-            None
-        }
-    }
-
-    /// Of two threads the second, where it is free, has to make a call, and has less time for it.
-    fn sooner(
-        &self,
-        slots: &Slots,
-        best: Option<ThreadId>,
-        other: Option<ThreadId>,
-    ) -> Option<ThreadId> {
-        let Some(thread) = other else {
-            return best;
-        };
-        if self.budget.left(thread) == 0 || !is_free(slots, thread) {
-            return best;
-        }
-        match best {
-            Some(best) if self.budget.limit(best) <= self.budget.limit(thread) => Some(best),
-            _ => Some(thread),
-        }
-    }
-
-    /// Whether no thread has to be opened sooner than this one has to make its calls.
-    fn has_time(&self, thread: ThreadId) -> bool {
-        self.budget.others() == 0
-            || !self.budget.lasts(thread)
-            || self.budget.limit(thread) <= self.budget.others_limit()
-    }
-
     /// A thread comes to wait for the message of a kept call.
     fn receive(&mut self, slots: &Slots, receipt: Receipt) -> Result<Turn, AllocError> {
         let next = slots.calls_made().saturating_add(1);
@@ -249,14 +201,23 @@ impl<'a> Guide<'a> {
         else {
             return Ok(Turn::Lost);
         };
-        let from = shown(slots, *caller, call.call());
+        let from = if slots.is_live(*caller) {
+            shown(slots, *caller, call.call())
+        } else {
+            ThreadId::ANYTHREAD
+        };
         if is_free(slots, receipt.thread) {
             self.go_on();
-            self.waiters.push(Waiter {
+            self.waiters.push(Pair {
                 number: next,
                 sending: receipt.sending,
             })?;
-            let call = receiving_call(self.alloc, next, receipt.thread, from, call.call())?;
+            let to = if receipt.is_answer {
+                *caller
+            } else {
+                ThreadId::NILTHREAD
+            };
+            let call = receiving_call(self.alloc, next, receipt.thread, to, from, call.call())?;
             return Ok(Turn::Entry(call));
         }
         match self.open_for(slots, receipt.thread, *caller) {
@@ -264,6 +225,7 @@ impl<'a> Guide<'a> {
             None => {
                 // it waits already, or can not
                 self.budget.give_back(receipt.thread);
+                self.allotment.widen(self.gap);
                 self.go_on();
                 Ok(Turn::Again)
             }
@@ -282,37 +244,25 @@ impl<'a> Guide<'a> {
             }
         }
         for waiter in self.waiters.as_slice() {
-            if waiter.number == call.number {
-                return self.passed <= waiter.sending;
+            if waiter.number == call.number && self.passed <= waiter.sending {
+                return true;
             }
         }
         self.wanted.names_from(self.passed, call.number)
     }
 
-    /// How many calls may come before the next step.
-    pub(super) fn room(&self, slots: &Slots) -> u64 {
-        let next = slots.calls_made().saturating_add(1);
-        let end = self.wanted.base.calls().saturating_add(1);
-        for at in self.at..self.steps.len() {
-            match self.steps[at] {
-                Step::Receive(receipt) => return receipt.number.saturating_sub(next),
-                Step::Kept(place) => {
-                    if let Some(Entry::Given(Input::Called(number, _, _))) = self
-                        .wanted
-                        .kept
-                        .get(place)
-                    {
-                        return number.saturating_sub(next);
-                    }
-                }
+    /// Whether threads that are to end make calls now that they can not make later in this gap.
+    pub(super) fn is_closing(&self) -> bool {
+        if !self.has_others() {
+            return false;
+        }
+        let end = self.wanted.end_of(self.gap);
+        for place in self.passed.saturating_add(1)..end.saturating_add(1) {
+            if self.others.get(place).copied() == Some(true) {
+                return false;
             }
         }
-        end.saturating_sub(next)
-    }
-
-    /// Whether calls of threads that are to end come before the next step.
-    pub(super) fn is_closing(&self) -> bool {
-        self.budget.closes_at(self.at)
+        true
     }
 
     /// More turns than the history can take.

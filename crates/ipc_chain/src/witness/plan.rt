@@ -1,7 +1,11 @@
-// The steps to a history that ends as a part says.
+// The steps to a history that ends as a part says, and who makes the calls between them.
+use super::allotment::Allotment;
+use super::budget::Budget;
+use super::messages::{Message, Messages, Pair, find_messages};
 use super::wanted::Wanted;
-use ipc_history::{Call, Entry, Input};
+use super::windows::{Windows, find_windows};
 use ipc_words::ThreadId;
+use ipc_words::limits::TABLE_SLOTS;
 use std::alloc::{AllocError, Global};
 
 /// A step to a history.
@@ -13,117 +17,206 @@ pub(super) enum Step {
     Receive(Receipt),
 }
 
-/// A call that waits for the message of a kept call.
+/// A call that receives the message of a kept call.
 #[derive(Clone, Copy)]
 pub(super) struct Receipt {
-    /// Who waits.
+    /// Who receives it.
     pub thread: ThreadId,
     /// The place of the sending call among the kept entries.
     pub sending: usize,
-    /// The number that the waiting call has at the latest.
+    /// The number that it has at the earliest.
     pub number: u64,
+    /// Whether it sends a message before, which that one answers.
+    pub is_answer: bool,
 }
 
-/// Makes the steps, the last one first.
+/// The steps, and the calls between them.
 #[derive(Drop)]
-struct Planner<'a> {
-    wanted: Wanted<'a>,
-    steps: Vec<Step>,
-    /// What is to stand before the steps so far.
-    waiting: Vec<Receipt>,
-    /// The number of the first call of the steps so far.
-    following: u64,
+pub(super) struct Plan {
+    pub budget: Budget,
+    pub steps: Vec<Step>,
+    /// The kept calls that receive messages of kept calls, of which no kept entry tells.
+    pub pairs: Vec<Pair>,
+    pub allotment: Allotment,
+    /// How many calls nobody can make, as far as the kept entries tell.
+    pub missing: u64,
+    /// At each place whether a thread can be there that is to end.
+    pub others: Vec<bool>,
 }
 
-/// The steps to a history that ends so: its kept entries in their order, and before each call whose
-/// message nobody receives by them one that does.
-pub(super) fn plan(alloc: Global, wanted: Wanted<'_>) -> Result<Vec<Step>, AllocError> {
-    let mut planner = Planner {
-        wanted,
-        steps: Vec::new(alloc),
-        waiting: Vec::new(alloc),
-        following: wanted.base.calls().saturating_add(1),
-    };
-    for place in (0..wanted.kept.len()).rev() {
-        planner.enter(place, &wanted.kept[place])?;
+/// The kept entries in their order, with a call that receives for each message of which they do not
+/// tell that it is received; and who makes the other calls in which gap.
+pub(super) fn make_plan(alloc: Global, wanted: Wanted<'_>) -> Result<Plan, AllocError> {
+    let mut apart = Vec::new(alloc);
+    let mut best = draft(alloc, wanted, apart.as_slice())?;
+    for place in 0..wanted.kept.len() {
+        if best.missing == 0 {
+            break;
+        }
+        if best.pairs.iter().any(|pair| pair.sending == place) {
+            apart.push(place)?;
+            let other = draft(alloc, wanted, apart.as_slice())?;
+            if other.missing < best.missing {
+                best = other;
+            } else {
+                let _ = apart.pop();
+            }
+        }
     }
-    let Planner { steps, .. } = planner;
-    let mut steps = steps;
-    steps.reverse();
+    Ok(best)
+}
+
+/// The same, where no kept call receives the messages of the calls at these places.
+fn draft(alloc: Global, wanted: Wanted<'_>, apart: &[usize]) -> Result<Plan, AllocError> {
+    let mut budget = Budget::new(alloc, wanted)?;
+    let messages = find_messages(alloc, wanted, apart)?;
+    for message in messages.others.as_slice() {
+        let _ = budget.take(message.thread);
+    }
+    let Windows { windows, others } = find_windows(alloc, wanted, &budget, &messages)?;
+    let Messages {
+        pairs,
+        others: messages,
+    } = messages;
+    let makers = TABLE_SLOTS.saturating_add(messages.len());
+    let mut allotment = Allotment::new(alloc, makers, windows, rooms(alloc, wanted)?)?;
+    let mut missing: u64 = 0;
+    for at in 0..messages.len() {
+        allow(wanted, &mut allotment, receiver(at), &messages[at])?;
+        let given = allotment.give(receiver(at), 1)?;
+        missing = missing.saturating_add(1).saturating_sub(given);
+    }
+    missing = missing.saturating_add(allotment.give_all(alloc, &budget)?);
+    let mut places = Vec::with_capacity(alloc, messages.len())?;
+    for at in 0..messages.len() {
+        let maker = budget.maker_of(messages[at].thread);
+        places.push(settle(wanted, &mut allotment, at, &messages[at], maker)?)?;
+    }
+    let steps = steps(alloc, wanted, messages.as_slice(), places.as_slice())?;
+    Ok(Plan {
+        budget,
+        steps,
+        pairs,
+        allotment,
+        missing,
+        others,
+    })
+}
+
+/// As which maker of calls the receiver of a message counts, for this one.
+fn receiver(at: usize) -> usize {
+    TABLE_SLOTS.saturating_add(at)
+}
+
+/// By gap, how many calls come in it.
+fn rooms(alloc: Global, wanted: Wanted<'_>) -> Result<Vec<u64>, AllocError> {
+    let mut rooms = Vec::new(alloc);
+    let mut next: u64 = 1;
+    for entry in wanted.kept {
+        if let Some(number) = entry.number() {
+            rooms.push(number.saturating_sub(next))?;
+            next = number.saturating_add(1);
+        }
+    }
+    rooms.push(wanted.base.calls().saturating_add(1).saturating_sub(next))?;
+    Ok(rooms)
+}
+
+/// In which gaps a message may be received: where its receiver waits for it, or it for its
+/// receiver.
+fn allow(
+    wanted: Wanted<'_>,
+    allotment: &mut Allotment,
+    maker: usize,
+    message: &Message,
+) -> Result<(), AllocError> {
+    let behind = message
+        .sending
+        .saturating_add(1)
+        .max(message.first)
+        .max(message.free);
+    if message.is_patient && behind <= message.last {
+        allotment.allow(maker, wanted.gap_at(behind), wanted.gap_at(message.last))?;
+    }
+    if message.first <= message.until && message.free <= message.until {
+        allotment.allow(
+            maker,
+            wanted.gap_at(message.free),
+            wanted.gap_at(message.until),
+        )?;
+    }
+    Ok(())
+}
+
+/// At which place a message is received. Where its receiver makes another call after that and
+/// before the message comes, it makes them the other way round.
+fn settle(
+    wanted: Wanted<'_>,
+    allotment: &mut Allotment,
+    at: usize,
+    message: &Message,
+    maker: usize,
+) -> Result<usize, AllocError> {
+    let until = wanted.gap_at(message.until);
+    let Some(gap) = allotment.gap_of(receiver(at)) else {
+        return Ok(message.until);
+    };
+    let mut best = gap;
+    for other in gap..until.saturating_add(1) {
+        if allotment.count(maker, other) > 0 {
+            best = other;
+        }
+    }
+    if best != gap {
+        allotment.swap(receiver(at), best, maker, gap)?;
+    }
+    allotment.remove(receiver(at), best, 1);
+    Ok(wanted.end_of(best).min(message.last))
+}
+
+/// The steps, where these messages are received at these places.
+fn steps(
+    alloc: Global,
+    wanted: Wanted<'_>,
+    messages: &[Message],
+    places: &[usize],
+) -> Result<Vec<Step>, AllocError> {
+    let mut steps = Vec::new(alloc);
+    for place in 0..wanted.kept.len().saturating_add(1) {
+        let mut number = first_number(wanted, places, place);
+        for at in 0..messages.len() {
+            if places.get(at).copied() == Some(place) {
+                steps.push(Step::Receive(Receipt {
+                    thread: messages[at].thread,
+                    sending: messages[at].sending,
+                    number,
+                    is_answer: messages[at].is_answer,
+                }))?;
+                number = number.saturating_add(1);
+            }
+        }
+        if place < wanted.kept.len() {
+            steps.push(Step::Kept(place))?;
+        }
+    }
     Ok(steps)
 }
 
-impl Planner<'_> {
-    /// Enters the kept entry at a place.
-    fn enter(&mut self, place: usize, entry: &Entry) -> Result<(), AllocError> {
-        if let Entry::Given(Input::Opened(thread, _)) = entry {
-            self.stand_for(*thread)?;
-        }
-        self.steps.push(Step::Kept(place))?;
-        if let Entry::Given(Input::Called(number, _, call)) = entry {
-            self.following = *number;
-            self.await_message(place, *number, call.call())?;
-            let before = self.wanted.call_before(place);
-            self.stand_before(before)?;
-        }
-        Ok(())
+/// The number that the first receiving call at a place has: where a gap ends there, they are the
+/// last ones of it.
+fn first_number(wanted: Wanted<'_>, places: &[usize], place: usize) -> u64 {
+    let is_end = match wanted.kept.get(place) {
+        Some(entry) => entry.number().is_some(),
+        None => true,
+    };
+    if !is_end {
+        return 0;
     }
-
-    /// Who receives the message of a call that counts as over waits for it before, unless a kept
-    /// entry tells of that.
-    fn await_message(&mut self, place: usize, number: u64, call: &Call) -> Result<(), AllocError> {
-        let is_told = self.wanted.tells_send_from(place, number);
-        if call.to() == ThreadId::NILTHREAD || is_told || !self.wanted.is_over(number) {
-            return Ok(());
-        }
-        self.waiting.push(Receipt {
-            thread: call.to(),
-            sending: place,
-            number,
-        })?;
-        Ok(())
-    }
-
-    /// As many of those that wait as there are calls between this number and the next stand before
-    /// that.
-    fn stand_before(&mut self, number: u64) -> Result<(), AllocError> {
-        for _ in 0..self.waiting.len() {
-            if self.following <= number.saturating_add(1) {
-                break;
-            }
-            if let Some(receipt) = self.waiting.pop() {
-                self.stand(receipt)?;
-            }
-        }
-        Ok(())
-    }
-
-    /// What a thread waits for stands behind its opening.
-    fn stand_for(&mut self, thread: ThreadId) -> Result<(), AllocError> {
-        for place in (0..self.waiting.len()).rev() {
-            if let Some(receipt) = self.take_for(place, thread) {
-                self.stand(receipt)?;
-            }
-        }
-        Ok(())
-    }
-
-    /// What waits at a place, where it is this thread.
-    fn take_for(&mut self, place: usize, thread: ThreadId) -> Option<Receipt> {
-        if place < self.waiting.len() && self.waiting[place].thread == thread {
-            Some(self.waiting.swap_remove(place))
-        } else {
-            None
+    let mut number = wanted.number_at(place);
+    for other in places {
+        if *other == place {
+            number = number.saturating_sub(1);
         }
     }
-
-    /// A call that waits comes before the steps so far.
-    fn stand(&mut self, receipt: Receipt) -> Result<(), AllocError> {
-        self.following = self.following.saturating_sub(1);
-        self.steps.push(Step::Receive(Receipt {
-            number: self.following,
-            ..receipt
-        }))?;
-        Ok(())
-    }
+    number
 }

@@ -1,7 +1,7 @@
 // How a history is to end: what a part says of it.
 use ipc_compact::Base;
 use ipc_history::{Entry, Input, Output};
-use ipc_words::ThreadId;
+use ipc_words::{ErrorKind, ThreadId};
 
 /// The base and the kept entries of a part.
 #[derive(Clone, Copy)]
@@ -24,14 +24,17 @@ impl Wanted<'_> {
         }
     }
 
+    /// Whether the kept entry at a place names a call.
+    pub fn is_named_at(&self, place: usize, number: u64) -> bool {
+        match self.kept.get(place) {
+            Some(entry) => names(entry, number),
+            None => false,
+        }
+    }
+
     /// Whether a kept entry from a place on names a call.
     pub fn names_from(&self, place: usize, number: u64) -> bool {
-        for at in place..self.kept.len() {
-            if names(&self.kept[at], number) {
-                return true;
-            }
-        }
-        false
+        self.name_from(place, number).is_some()
     }
 
     /// Whether a kept entry from a place on tells how the send phase of a call went.
@@ -44,17 +47,6 @@ impl Wanted<'_> {
         false
     }
 
-    /// The version of the last kept thread of a number before a place, 0 where there is none.
-    pub fn version_before(&self, place: usize, number: u32) -> u32 {
-        let mut version = 0;
-        for at in 0..place.min(self.kept.len()) {
-            if let Some(thread) = self.kept[at].thread(number) {
-                version = thread.version();
-            }
-        }
-        version
-    }
-
     /// The version of the first kept thread of a number from a place on.
     pub fn version_from(&self, place: usize, number: u32) -> Option<u32> {
         for at in place..self.kept.len() {
@@ -65,24 +57,154 @@ impl Wanted<'_> {
         None
     }
 
-    /// The number of the last kept call before a place, 0 where there is none.
-    pub fn call_before(&self, place: usize) -> u64 {
-        let mut call = 0;
-        for at in 0..place.min(self.kept.len()) {
-            if let Some(number) = self.kept[at].number() {
-                call = number;
+    /// The place of the first kept entry from a place on that names a call.
+    pub fn name_from(&self, place: usize, number: u64) -> Option<usize> {
+        for at in place..self.kept.len() {
+            if names(&self.kept[at], number) {
+                return Some(at);
             }
         }
-        call
+        None
     }
 
-    /// The number of the first kept call of a thread from a place on.
-    pub fn call_from(&self, place: usize, thread: ThreadId) -> Option<u64> {
-        for at in place..self.kept.len() {
-            if let Entry::Given(Input::Called(number, caller, _)) = &self.kept[at] {
-                if *caller == thread {
-                    return Some(*number);
+    /// The place behind the last kept entry that names a call.
+    pub fn place_behind(&self, number: u64) -> usize {
+        for at in (0..self.kept.len()).rev() {
+            if names(&self.kept[at], number) {
+                return at.saturating_add(1);
+            }
+        }
+        0
+    }
+
+    /// The gap at a place: how many kept calls come before it.
+    pub fn gap_at(&self, place: usize) -> usize {
+        let mut gap: usize = 0;
+        for at in 0..place.min(self.kept.len()) {
+            if self.kept[at].number().is_some() {
+                gap = gap.saturating_add(1);
+            }
+        }
+        gap
+    }
+
+    /// Where a gap ends: the place of the kept call behind it, or the end.
+    pub fn end_of(&self, gap: usize) -> usize {
+        let mut passed: usize = 0;
+        for at in 0..self.kept.len() {
+            if self.kept[at].number().is_some() {
+                if passed == gap {
+                    return at;
                 }
+                passed = passed.saturating_add(1);
+            }
+        }
+        self.kept.len()
+    }
+
+    /// The number of the kept call at a place, where it is one of a thread.
+    pub fn call_by(&self, place: usize, thread: ThreadId) -> Option<u64> {
+        match self.kept.get(place) {
+            Some(Entry::Given(Input::Called(number, caller, _))) if *caller == thread => {
+                Some(*number)
+            }
+            _ => None,
+        }
+    }
+
+    /// The number of the kept call at a place; at the end, the one behind all calls.
+    pub fn number_at(&self, place: usize) -> u64 {
+        match self.kept.get(place) {
+            Some(Entry::Given(Input::Called(number, _, _))) => *number,
+            _ => self.base.calls().saturating_add(1),
+        }
+    }
+
+    /// Whether a kept entry tells from whom a call received.
+    pub fn tells_receive(&self, number: u64) -> bool {
+        self.kept.iter().any(|entry| tells_receive(entry, number))
+    }
+
+    /// The place of the kept entry behind which a call fails at once, as its partner is not there.
+    pub fn lack_of(&self, number: u64) -> Option<usize> {
+        for at in 1..self.kept.len() {
+            if let Entry::Written(Output::Failed(failed, code)) = &self.kept[at] {
+                if *failed == number
+                    && code.kind() == Some(ErrorKind::NonExistingPartner)
+                    && self.is_named_at(at.saturating_sub(1), number)
+                {
+                    return Some(at.saturating_sub(1));
+                }
+            }
+        }
+        None
+    }
+
+    /// Whether two kept threads are in one space.
+    pub fn are_beside(&self, thread: ThreadId, other: ThreadId) -> bool {
+        let space = self.space_of(thread);
+        space.is_some() && space == self.space_of(other)
+    }
+
+    fn space_of(&self, thread: ThreadId) -> Option<u64> {
+        for entry in self.kept {
+            if let Some(space) = entry.space(thread) {
+                return Some(space);
+            }
+        }
+        None
+    }
+
+    /// The place behind the opening of a thread, 0 where that is not kept.
+    pub fn place_opened(&self, thread: ThreadId) -> usize {
+        for at in 0..self.kept.len() {
+            if self.kept[at].opens(thread) {
+                return at.saturating_add(1);
+            }
+        }
+        0
+    }
+
+    /// Whether a kept entry tells that a call before a number received the message of a call.
+    pub fn is_received_before(&self, sending: u64, number: u64) -> bool {
+        match self.receiver_of(sending) {
+            Some(receiving) => receiving < number,
+            None => false,
+        }
+    }
+
+    /// Whether a kept entry tells that a call behind a number did.
+    pub fn is_received_behind(&self, sending: u64, number: u64) -> bool {
+        match self.receiver_of(sending) {
+            Some(receiving) => receiving > number,
+            None => false,
+        }
+    }
+
+    fn receiver_of(&self, sending: u64) -> Option<u64> {
+        for entry in self.kept {
+            if let Some(receiving) = entry.receiver(sending) {
+                return Some(receiving);
+            }
+        }
+        None
+    }
+
+    /// The partner of a call that fails with this kept entry, where that has ended then.
+    pub fn partner_ended(&self, place: usize) -> Option<ThreadId> {
+        let Some(Entry::Written(Output::Failed(number, code))) = self.kept.get(place) else {
+            return None;
+        };
+        if code.kind() != Some(ErrorKind::NonExistingPartner) || self.lack_of(*number).is_some() {
+            return None;
+        }
+        for entry in self.kept {
+            if let Some((_, call)) = entry.call(*number) {
+                return if call.to() == ThreadId::NILTHREAD || self.tells_send_from(0, *number) {
+                    Some(call.from())
+                } else {
+                    Some(call.to())
+                };
             }
         }
         None
@@ -129,6 +251,19 @@ fn tells_send(entry: &Entry, number: u64) -> bool {
             | Output::Overflowed(sending, _, _)
             | Output::Aborted(sending, _, _),
         ) => *sending == number,
+        _ => false,
+    }
+}
+
+/// Whether an entry names a call as the receiver of a message.
+fn tells_receive(entry: &Entry, number: u64) -> bool {
+    match entry {
+        Entry::Written(
+            Output::Began(_, receiving)
+            | Output::Ended(_, receiving)
+            | Output::Overflowed(_, receiving, _)
+            | Output::Aborted(_, receiving, _),
+        ) => *receiving == number,
         _ => false,
     }
 }

@@ -1,0 +1,320 @@
+// The messages of kept calls that count as over, where no kept entry tells who received them: the
+// receiver makes a call for it that is not kept.
+use super::wanted::Wanted;
+use ipc_history::{Call, Entry, Input};
+use ipc_words::{Period, ThreadId};
+use std::alloc::{AllocError, Global};
+
+/// A message that is to be received, and where among the kept entries that may be.
+#[derive(Clone, Copy)]
+pub(super) struct Message {
+    /// Who receives it.
+    pub thread: ThreadId,
+    /// The place of the call that sends it.
+    pub sending: usize,
+    /// From which place on its receiver can wait for it, and up to which one.
+    pub free: usize,
+    pub until: usize,
+    /// The first place at which it may be received.
+    pub first: usize,
+    /// The last one.
+    pub last: usize,
+    /// Whether its call waits for a receiver that comes later.
+    pub is_patient: bool,
+    /// Whether it answers a message that its receiver has sent.
+    pub is_answer: bool,
+}
+
+/// A kept call that counts as over and receives the message of another one.
+#[derive(Clone, Copy)]
+pub(super) struct Pair {
+    /// The number of the call that receives it.
+    pub number: u64,
+    /// The place of the call that sends it.
+    pub sending: usize,
+}
+
+/// The messages of kept calls of which no kept entry tells that they were received.
+#[derive(Drop)]
+pub(super) struct Messages {
+    /// Those that another kept call receives.
+    pub pairs: Vec<Pair>,
+    /// The others, for each of which a call is made that is not kept.
+    pub others: Vec<Message>,
+}
+
+/// The messages, in the order of their calls. No kept call receives those of the calls at these
+/// places, nor are they answers.
+pub(super) fn find_messages(
+    alloc: Global,
+    wanted: Wanted<'_>,
+    apart: &[usize],
+) -> Result<Messages, AllocError> {
+    let mut messages = Messages {
+        pairs: Vec::new(alloc),
+        others: Vec::new(alloc),
+    };
+    for place in 0..wanted.kept.len() {
+        if let Entry::Given(Input::Called(number, caller, call)) = &wanted.kept[place] {
+            if is_untold(wanted, place, *number, call.call()) {
+                let is_apart = apart.iter().any(|other| *other == place);
+                messages.add(wanted, place, *number, *caller, call.call(), is_apart)?;
+            }
+        }
+    }
+    Ok(messages)
+}
+
+/// Whether a call has sent a message, and no kept entry tells of that.
+fn is_untold(wanted: Wanted<'_>, place: usize, number: u64, call: &Call) -> bool {
+    call.to() != ThreadId::NILTHREAD
+        && wanted.is_over(number)
+        && !wanted.tells_send_from(place, number)
+}
+
+impl Messages {
+    fn add(
+        &mut self,
+        wanted: Wanted<'_>,
+        place: usize,
+        number: u64,
+        caller: ThreadId,
+        call: &Call,
+        is_apart: bool,
+    ) -> Result<(), AllocError> {
+        let mut message = message_of(wanted, place, number, caller, call);
+        if !is_apart {
+            if let Some(number) = self.receiver(wanted, place, number, caller, call) {
+                self.pairs.push(Pair {
+                    number,
+                    sending: place,
+                })?;
+                return Ok(());
+            }
+            if let Some(number) = self.asked(wanted, place, caller, call.to()) {
+                self.pairs.push(Pair {
+                    number,
+                    sending: place,
+                })?;
+                message.is_answer = true;
+                message.is_patient = false;
+                message.free = message.free.max(wanted.place_opened(caller));
+                message.free = message.free.max(last_asking(wanted, place, caller, number));
+                message.until = first_asking(wanted, place, caller, number);
+            }
+        }
+        self.others.push(message)?;
+        Ok(())
+    }
+
+    /// The kept call of the sender of a message that may have received one of its receiver before.
+    fn asked(
+        &self,
+        wanted: Wanted<'_>,
+        place: usize,
+        sender: ThreadId,
+        receiver: ThreadId,
+    ) -> Option<u64> {
+        for before in (0..place).rev() {
+            if let Some(number) = wanted.call_by(before, sender) {
+                return if self.can_receive(wanted, before, receiver) {
+                    Some(number)
+                } else {
+                    None
+                };
+            }
+        }
+        None
+    }
+
+    /// The kept call that receives a message: the last one of the receiver before, or one for which
+    /// the message waits.
+    fn receiver(
+        &self,
+        wanted: Wanted<'_>,
+        place: usize,
+        number: u64,
+        caller: ThreadId,
+        call: &Call,
+    ) -> Option<u64> {
+        for before in (0..place.min(wanted.kept.len())).rev() {
+            if let Some(number) = wanted.call_by(before, call.to()) {
+                if self.can_receive(wanted, before, caller)
+                    && first_asking(wanted, place, call.to(), number) == place
+                {
+                    return Some(number);
+                }
+                break;
+            }
+        }
+        if !is_patient(call) {
+            return None;
+        }
+        let (_, last) = due(wanted, place, number, call.to());
+        for after in place.saturating_add(1)..last.saturating_add(1).min(wanted.kept.len()) {
+            if let Some(number) = wanted.call_by(after, call.to()) {
+                if self.can_receive(wanted, after, caller)
+                    && first_asking(wanted, place, call.to(), number) == place
+                {
+                    return Some(number);
+                }
+            }
+        }
+        None
+    }
+
+    /// Whether the kept call at a place may have received a message of a thread, of which no kept
+    /// entry tells.
+    fn can_receive(&self, wanted: Wanted<'_>, place: usize, sender: ThreadId) -> bool {
+        let Some(Entry::Given(Input::Called(number, caller, call))) = wanted.kept.get(place) else {
+            return false;
+        };
+        if !wanted.is_over(*number) || wanted.tells_receive(*number) || self.has_pair(*number) {
+            return false;
+        }
+        let from = call.call().from();
+        from == ThreadId::ANYTHREAD
+            || from == sender
+            || from == ThreadId::ANYLOCALTHREAD && wanted.are_beside(sender, *caller)
+    }
+
+    fn has_pair(&self, number: u64) -> bool {
+        self.pairs.iter().any(|pair| pair.number == number)
+    }
+
+    /// The place behind all kept entries that need a call to be open.
+    pub fn place_behind(&self, wanted: Wanted<'_>, number: u64) -> usize {
+        let mut behind = wanted.place_behind(number);
+        for pair in self.pairs.as_slice() {
+            if pair.number == number {
+                behind = behind.max(pair.sending.saturating_add(1));
+            }
+        }
+        behind
+    }
+}
+
+fn message_of(
+    wanted: Wanted<'_>,
+    place: usize,
+    number: u64,
+    caller: ThreadId,
+    call: &Call,
+) -> Message {
+    let (first, last) = due(wanted, place, number, call.to());
+    Message {
+        thread: call.to(),
+        sending: place,
+        free: free_from(wanted, place, call.to()).max(known_from(wanted, place, caller, call.to())),
+        until: place,
+        first,
+        last: stay(wanted, place.saturating_add(1).max(first), last, call.to()),
+        is_patient: is_patient(call),
+        is_answer: false,
+    }
+}
+
+/// Whether a call that sends waits for its receiver.
+fn is_patient(call: &Call) -> bool {
+    call.send_period() != Period::ZERO
+}
+
+/// The place behind the last kept call that sends to a thread and is received by a call before this
+/// number, of those up to a place.
+fn last_asking(wanted: Wanted<'_>, place: usize, thread: ThreadId, number: u64) -> usize {
+    for at in (0..place).rev() {
+        if let Some(Entry::Given(Input::Called(sending, _, call))) = wanted.kept.get(at) {
+            if call.call().to() == thread && wanted.is_received_before(*sending, number) {
+                return at.saturating_add(1);
+            }
+        }
+    }
+    0
+}
+
+/// The place of the first kept call that sends to a thread and is not received by a call of this
+/// number or before it, of those up to a place.
+fn first_asking(wanted: Wanted<'_>, place: usize, thread: ThreadId, number: u64) -> usize {
+    for at in 0..place {
+        if let Some(Entry::Given(Input::Called(sending, _, call))) = wanted.kept.get(at) {
+            if call.call().to() == thread && wanted.is_received_behind(*sending, number) {
+                return at;
+            }
+        }
+    }
+    place
+}
+
+/// Between which places a message is received, so that its call is in its receive phase where the
+/// next kept entry says so: before that, and as what brings it, unless a kept call does.
+fn due(wanted: Wanted<'_>, sending: usize, number: u64, receiver: ThreadId) -> (usize, usize) {
+    let Some(told) = wanted.name_from(sending.saturating_add(1), number) else {
+        return (0, wanted.kept.len());
+    };
+    if let Some(Entry::Given(_)) = wanted.kept.get(told) {
+        // its bytes move from then on
+        return (free_from(wanted, told, receiver), told);
+    }
+    for place in (sending..told).rev() {
+        if let Some(Entry::Given(input)) = wanted.kept.get(place) {
+            return match input {
+                Input::Called(_, _, _) if place == sending => (0, told),
+                Input::Called(asking, _, call) if wanted.is_named_at(told, *asking) => {
+                    (0, if is_patient(call.call()) { told } else { place })
+                }
+                _ => (told, told),
+            };
+        }
+    }
+    (0, sending)
+}
+
+/// From which place on a thread can wait for a message of a call.
+fn free_from(wanted: Wanted<'_>, sending: usize, thread: ThreadId) -> usize {
+    let mut free: usize = 0;
+    for place in 0..sending {
+        match wanted.kept.get(place) {
+            Some(Entry::Given(Input::Opened(opened, _))) if *opened == thread => {
+                free = place.saturating_add(1);
+            }
+            Some(Entry::Given(Input::Broke(broken))) if broken.number() == thread.number() => {
+                free = place.saturating_add(1);
+            }
+            Some(Entry::Given(Input::Called(number, caller, _))) if *caller == thread => {
+                free = wanted.place_behind(*number);
+            }
+            _ => {}
+        }
+    }
+    free
+}
+
+/// From which place on a thread waits for the sender of a message and for nobody else: where it is
+/// there, or where nobody else sends to it before.
+fn known_from(wanted: Wanted<'_>, sending: usize, sender: ThreadId, receiver: ThreadId) -> usize {
+    for place in 0..sending {
+        if let Some(Entry::Given(Input::Called(_, _, call))) = wanted.kept.get(place) {
+            if call.call().to() == receiver {
+                return wanted.place_opened(sender);
+            }
+        }
+    }
+    0
+}
+
+/// Up to which place a thread can wait for a message of a call, of the places up to one: before it
+/// makes its next kept call, and ends.
+fn stay(wanted: Wanted<'_>, behind: usize, last: usize, thread: ThreadId) -> usize {
+    for place in behind..last.min(wanted.kept.len()) {
+        let is_end = match &wanted.kept[place] {
+            Entry::Given(Input::Called(_, caller, _)) => *caller == thread,
+            Entry::Given(Input::Broke(broken)) => *broken == thread,
+            Entry::Given(Input::Opened(opened, _)) => opened.number() == thread.number(),
+            _ => false,
+        };
+        if is_end {
+            return place;
+        }
+    }
+    last
+}

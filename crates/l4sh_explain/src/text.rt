@@ -4,10 +4,16 @@ use crate::rules::CallRule;
 use crate::whole::LineFault;
 use ipc_lines::{read_decimal, read_hex};
 use ipc_words::MaskedControl;
+use ipc_words::limits::{
+    MAX_MESSAGE_WORDS, MAX_STRING_BYTES, MAX_STRINGS, MAX_SUBSTRINGS, SUBSTRING_LENGTH_LIMIT,
+};
 use std::fmt;
 
 /// The most bytes that are shown of what stood there.
 const MAX_SHOWN: usize = 40;
+
+/// A decimal of more digits has more than 64 bits.
+const MAX_DIGITS: usize = 19;
 
 impl fmt::Display for LineFault {
     ghost use Rattle.std.specs.Prelude.{Some};
@@ -151,6 +157,64 @@ fn wanted_timeouts(bytes: &[u8]) -> &'static str {
     }
 }
 
+fn wanted_words(bytes: &[u8]) -> &'static str {
+    if bytes.split(is_comma).count() > MAX_MESSAGE_WORDS {
+        "at most 63 words"
+    } else {
+        "'-', or HEX of at most 64 bits, with commas and no spaces between, as 0x7,0x8"
+    }
+}
+
+fn wanted_strings(bytes: &[u8]) -> &'static str {
+    if bytes.split(is_comma).count() > MAX_STRINGS {
+        "at most 31 strings"
+    } else if bytes.iter().filter(|byte| byte.is_ascii_hexdigit()).count() / 2 > MAX_STRING_BYTES {
+        "strings of at most 1048576 bytes together"
+    } else {
+        "'-', or for each string x and its bytes in hex digits, as x616263"
+    }
+}
+
+fn wanted_buffers(bytes: &[u8]) -> &'static str {
+    if bytes.split(ends_substring).count() > MAX_SUBSTRINGS {
+        "at most 31 substrings, of all buffers together"
+    } else if has_long(bytes) {
+        "a LENGTH below 2^54, as 5@0x1000"
+    } else {
+        "'-', 's', or LENGTH@POINTER with a decimal and a HEX, as 5@0x1000"
+    }
+}
+
+fn is_comma(byte: &u8) -> bool {
+    *byte == b','
+}
+
+// Whether a byte stands between two substrings.
+fn ends_substring(byte: &u8) -> bool {
+    *byte == b',' || *byte == b'+'
+}
+
+// Whether one of the substrings is past the limit of its length.
+fn has_long(buffers: &[u8]) -> bool {
+    for substring in buffers.split(ends_substring) {
+        if is_long(substring) {
+            return true;
+        }
+    }
+    false
+}
+
+fn is_long(substring: &[u8]) -> bool {
+    let Some(end) = substring.iter().position(|byte| *byte == b'@') else {
+        return false;
+    };
+    let (length, _) = substring.split_at(end);
+    match read_decimal(length) {
+        Some(length) => length >= SUBSTRING_LENGTH_LIMIT,
+        None => length.len() > MAX_DIGITS && length.iter().all(u8::is_ascii_digit),
+    }
+}
+
 // What is wanted of a text of a kind, in the words that fit what stood there.
 fn wanted_of(kind: FieldKind, bytes: &[u8]) -> &'static str {
     match kind {
@@ -159,11 +223,9 @@ fn wanted_of(kind: FieldKind, bytes: &[u8]) -> &'static str {
         FieldKind::Hex => wanted_hex(bytes),
         FieldKind::MaskedControl => wanted_control(bytes),
         FieldKind::Timeouts => wanted_timeouts(bytes),
-        FieldKind::Words => "'-', or HEX with commas and no spaces between, as 0x7,0x8",
-        FieldKind::Strings => "'-', or for each string x and its bytes in hex digits, as x616263",
-        FieldKind::Buffers => {
-            "'-', 's', or LENGTH@POINTER with a decimal and a HEX, as 5@0x1000"
-        }
+        FieldKind::Words => wanted_words(bytes),
+        FieldKind::Strings => wanted_strings(bytes),
+        FieldKind::Buffers => wanted_buffers(bytes),
         FieldKind::Digits => "an even number of hex digits, two at least",
     }
 }

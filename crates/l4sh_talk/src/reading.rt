@@ -22,6 +22,7 @@ send ID ..                  sends a message, once its receiver is there
 call ID ..                  sends one, and then waits for the answer of that thread
 reply_wait ID ..            answers a thread that waits, and then waits for a message of anybody
      7 0x8 \"a text\"         words and strings of the message; also words=7,0x8
+     \"a \"\"b\"\"\"              in a text \"\" is a quotation mark: a \"b\"; a space ends a text
      label=3                its label
      as=ID                  in the name of another thread of the space
      timeout=2s             how long it may wait, as 20us, 2ms, 1min or never; without it never

@@ -12,7 +12,8 @@ use std::alloc::{AllocError, Global};
 pub const HELP: &str = "open NUMBER SPACE              a thread; without SPACE in space 1
 call ID to=ID from=ID ..       a call: to= sends, from= receives; any, local, 1.1, or 1 for 1.1
      send=2ms receive=never    how long each phase may take, as 20us, 2ms, 1s, 1min or never
-     label=3 words=7,0x8       the message, and \"a text\" for each string
+     label=3 words=7,0x8       the message, and \"a text\" for each string, with a space between two
+     \"a \"\"b\"\"\"                 in a text \"\" is a quotation mark: a \"b\"
      as=ID                     in the name of another thread of its space
      buffers=100,20            for the strings that are received
 take ID                        the outcome of its last call
@@ -32,8 +33,11 @@ const COMMANDS: &str = "open, call, take, exreg, broke, at, advance, compact, he
 /// What is wanted of the number of a thread or of a space.
 const NUMBER: &str = "a decimal or HEX of at most 64 bits, as 1";
 
-/// What is wanted of a call without a phase.
-const PHASES: &str = "wanted is call ID, and to=ID to send, from=ID to receive";
+/// What is wanted of a call.
+const CALL: &str = "wanted is call ID, and to=ID to send, from=ID to receive";
+
+/// What lacks of a call without a phase.
+const PHASES: &str = "to=ID or from=ID is missing: to=ID sends, from=ID receives";
 
 /// The fewest words that stand for a call of a script, which has ten.
 const SCRIPT_WORDS: usize = 8;
@@ -269,7 +273,7 @@ fn call_mistake(alloc: Global, words: &[Vec<u8>], fault: CallFault) -> Result<Ty
     match fault {
         CallFault::Word(place, WordFault { name, wanted }) => match words.get(place) {
             Some(word) => bad(alloc, place, name, wanted, word),
-            None => mistake(alloc, PHASES),
+            None => mistake(alloc, CALL),
         },
         // the word is right, and is not shown as what is not wanted
         CallFault::Beside(place, WordFault { name, wanted }) => {

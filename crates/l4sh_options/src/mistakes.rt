@@ -1,5 +1,5 @@
 //! What is told of words that are a mistake.
-use crate::parts::{Argument, Kind, Values};
+use crate::parts::{Argument, Kind, Subcommand, Values};
 use crate::server_words::ARGUMENTS;
 use crate::shell_rows::SUBCOMMANDS;
 use clap::Error;
@@ -12,8 +12,8 @@ const NO_NUMBER: [&str; 3] = [
     "': cannot parse integer from empty string",
 ];
 
-/// The text of words that are a mistake: what `clap` says, and of a value that is no number, which
-/// numbers are wanted.
+/// The text of words that are a mistake: what `clap` says, of a value that is no number, which
+/// numbers are wanted, and of an argument that lacks, what it is.
 pub fn mistake_text(alloc: Global, mistake: &Error) -> Result<String, AllocError> {
     let text = mistake.to_string(alloc)?;
     for reason in NO_NUMBER {
@@ -23,7 +23,42 @@ pub fn mistake_text(alloc: Global, mistake: &Error) -> Result<String, AllocError
             return format!(in alloc; "{before}': wanted is a number, {least} to {most}{behind}");
         }
     }
+    with_help_of_command(alloc, text)
+}
+
+/// A text with what help says behind each argument that lacks of its subcommand.
+fn with_help_of_command(alloc: Global, text: String) -> Result<String, AllocError> {
+    for command in SUBCOMMANDS {
+        let usage = format!(in alloc; "Usage: l4sh {} ", command.name)?;
+        if text.as_str().contains(usage.as_str()) {
+            return with_help(alloc, text, &command);
+        }
+    }
     Ok(text)
+}
+
+/// The same of this subcommand. An argument that lacks stands alone in its line.
+fn with_help(alloc: Global, text: String, command: &Subcommand) -> Result<String, AllocError> {
+    let mut told = text;
+    for row in command.arguments {
+        let Some(line) = line_of(alloc, row)? else {
+            continue;
+        };
+        if let Some((before, behind)) = told.as_str().split_once(line.as_str()) {
+            let front = line.as_str().trim_end();
+            told = format!(in alloc; "{before}{front}  {}\n{behind}", row.help)?;
+        }
+    }
+    Ok(told)
+}
+
+/// The line of an argument that lacks, between newlines. None of what may lack.
+fn line_of(alloc: Global, row: &Argument) -> Result<Option<String>, AllocError> {
+    match row.kind {
+        Kind::Place(name) => Ok(Some(format!(in alloc; "\n  <{name}>\n")?)),
+        Kind::Places(name) => Ok(Some(format!(in alloc; "\n  <{name}>...\n")?)),
+        _ => Ok(None),
+    }
 }
 
 /// The least and the greatest number of the option with whose name a text ends.

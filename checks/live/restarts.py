@@ -3,7 +3,8 @@
 
 A server with a name and clients of it, all with reconnect=True. `l4d` is killed in midst of their calls and started again, several times, and so is the name
 server alone, with the `l4d` that there is; later it is stopped for a while, and what it answers then is no request of a client. Each client makes numbered calls by the server's name. Each call either brings
-its answer or fails, calls go on after each restart, no message comes twice, and the server has its name again in each case without a word of its program.
+its answer or fails, calls go on after each restart, no message comes twice, and the server has its name again in each case without a word of its program. So have the
+servers of l4x.
 
 Its last line is `N checked, M failed`; the status is 0 where M is 0.
 """
@@ -94,13 +95,16 @@ class Counting:
 
 def main():
     l4d, l4x = programs_of(sys.argv[1:], __doc__, 2)
-    with tempfile.TemporaryDirectory() as folder:
-        programs = Programs(l4d, l4x, folder)
-        try:
-            run(programs, folder)
-        finally:
-            for name in ("names", "l4d"):
-                programs.kill(name)
+    for case in (l4x_serves_again, run):
+        with tempfile.TemporaryDirectory() as folder:
+            programs = Programs(l4d, l4x, folder)
+            programs.start("l4d")
+            programs.start("names")
+            try:
+                case(programs, folder)
+            finally:
+                for name in ("names", "l4d"):
+                    programs.kill(name)
     return tally.end()
 
 
@@ -118,9 +122,45 @@ def late_answer(programs, counting, folder):
     check("what comes is of the clients alone", counting.senders == {10 + place for place in range(CLIENTS)}, counting.senders)
 
 
+def l4x_serves_again(programs, folder):
+    """keyvalue and gateway of l4x, too, are found by their names again, whose programs nobody started anew; and a gateway without a name server denies, and goes on."""
+    serving = [subprocess.Popen([programs.l4x, folder, role, "--names"], stdin=subprocess.DEVNULL, stderr=subprocess.PIPE, text=True) for role in ("keyvalue", "gateway")]
+
+    def run_of(*words):
+        return subprocess.run([programs.l4x, folder, *words], stdin=subprocess.DEVNULL, capture_output=True, text=True, timeout=SECONDS)
+
+    def asked(*words):
+        ran = run_of(*words, "--names")
+        return ran.returncode, ran.stdout
+
+    def comes(wanted, *words):
+        limit = time.monotonic() + SECONDS
+        while (said := asked(*words)) != wanted and time.monotonic() < limit:
+            time.sleep(0.2)
+        return said
+
+    tally.same("l4x put", comes((0, ""), "put", "7", "70", "gateway"), (0, ""))
+    for turn in range(RESTARTS):
+        programs.kill("names")
+        # the gateway is asked by its number, and looks for the server by its name
+        while ": K2: " in (told := run_of("get", "7", "gateway").stderr):
+            time.sleep(0.01)
+        check("a gateway without a name server denies", "the gateway found no server" in told, told)
+        time.sleep(0 if turn else STOPPED_FOR)
+        programs.start("names")
+        began = time.monotonic()
+        for words in (("get", "7"), ("get", "7", "gateway")):
+            tally.same(f"l4x {' '.join(words)} after the name server was started again, turn {turn}", comes((0, "70\n"), *words), (0, "70\n"))
+        check("it takes no long time", time.monotonic() - began < 2 * STOPPED_FOR, time.monotonic() - began)
+    tally.same("both run on", [it.poll() for it in serving], [None, None])
+    for process, role in zip(serving, ("keyvalue", "gateway")):
+        process.kill()
+        told = process.communicate()[1].splitlines(keepends=True)
+        wanted = f"l4x: the name {role} could not be registered again, and is tried again: there is no name server: start l4x DIR names\n"
+        tally.same(f"{role} tells it once", told[:1], [wanted])
+
+
 def run(programs, folder):
-    programs.start("l4d")
-    programs.start("names")
     counting = Counting(folder)
     check("calls by a name", counting.goes_on(), counting.failures[-3:])
     for turn in range(RESTARTS):

@@ -38,7 +38,7 @@ def listening(path):
 # What a server answers to HELLO before it goes, and what l4x says then.
 GOES = [
     ("", "F9: the connection ended"),
-    ("00000002 84 02", "refused: K2: a thread of that number is live"),
+    ("00000002 84 02", "refused: K2: a thread of that number is live; end the program that has it, or wait until it has ended"),
     ("00000002 84 04", "refused: K4: no memory"),
     ("00000003 85 53 03", "the server answered S3: the server stops"),
     ("00000003 81 00 02", "F3: a frame has a body length that its kind doesn't have"),
@@ -69,6 +69,12 @@ def check_unconnected(l4x):
     with tempfile.TemporaryDirectory() as folder:
         ran = subprocess.run([l4x, folder, "names"], stdin=subprocess.DEVNULL, capture_output=True, text=True, timeout=SECONDS)
         tally.same("l4x where nobody listens", (ran.returncode, ran.stderr), (1, f"l4x: {folder}/space1: nobody listens there: start l4d with this folder\n"))
+        with listening(f"{folder}/space1"):
+            pass
+        ran = subprocess.run([l4x, folder, "names"], stdin=subprocess.DEVNULL, capture_output=True, text=True, timeout=SECONDS)
+        why = "nobody listens there any more: its l4d has ended, or the path has had its --connections: start l4d anew, with --replace or --keep-open"
+        tally.same("l4x where nobody listens any more", (ran.returncode, ran.stderr), (1, f"l4x: {folder}/space1: {why}\n"))
+        os.remove(f"{folder}/space1")
         if os.getuid() != 0 or not shutil.which("setpriv"):
             print("another user: left out, since root and setpriv are wanted")
             return
@@ -83,14 +89,30 @@ def check_unconnected(l4x):
             tally.same("l4x of a user who may not connect", (ran.returncode, ran.stderr), (1, f"l4x: {folder}/space1: {why}\n"))
 
 
+# Of a role the words that l4x cannot take, and which of them it tells.
+NUMBER, NAME = "wanted is a decimal from 0 to 18446744073709551615", "wanted is 1 to 64 bytes of printable ASCII without the space"
+BAD_ARGUMENTS = [
+    (["put", "1", "two"], f"VALUE: {NUMBER}; not two"),
+    (["put", "", "2"], f"KEY: {NUMBER}"),
+    (["put", "1", "18446744073709551616", "gateway"], f"VALUE: {NUMBER}; not 18446744073709551616"),
+    (["put", "9" * 99, "2"], f"KEY: {NUMBER}"),
+    (["get", "\x1b[A"], f"KEY: {NUMBER}; not \\x1b[A"),
+    (["get", "-1", "--names"], f"KEY: {NUMBER}; not -1"),
+    (["sleep", "1s"], f"MICROSECONDS: {NUMBER}; not 1s"),
+    (["lookup", ""], f"NAME: {NAME}"),
+    (["lookup", "a b"], f"NAME: {NAME}; not a b"),
+    (["lookup", "a" * 65], f"NAME: {NAME}"),
+    (["lookup", "a\tb"], f"NAME: {NAME}; not a\\x09b"),
+]
+
 # Words that name no role of l4x, and what is wanted.
 MISTAKES = [
     ([], "l4x DIR ROLE"),
     (["names"], "l4x DIR ROLE"),
     (["meet", "walk"], "a role, keyvalue, gateway, put, get, sleep, names or lookup; not walk"),
     (["meet", "put", "1"], "l4x DIR put KEY VALUE [gateway] [--names], with decimals"),
-    (["meet", "put", "1", "two"], "l4x DIR put KEY VALUE [gateway] [--names], with decimals"),
-    (["meet", "get", "one"], "l4x DIR get KEY [gateway] [--names], with a decimal"),
+    (["meet", "put", "1", "2", "door"], "l4x DIR put KEY VALUE [gateway] [--names], with decimals"),
+    (["meet", "get"], "l4x DIR get KEY [gateway] [--names], with a decimal"),
     (["meet", "sleep"], "l4x DIR sleep MICROSECONDS, with a decimal"),
     (["meet", "lookup"], "l4x DIR lookup NAME"),
     (["meet", "names", "now"], "l4x DIR names"),
@@ -101,9 +123,9 @@ MISTAKES = [
 
 def check_mistakes(l4x):
     """What l4x says of words that name no role, and that `help` says what `--help` does."""
-    for words, wanted in MISTAKES:
+    for words, wanted in [*((words, f"wanted is {wanted}") for words, wanted in MISTAKES), *((["meet", *words], wanted) for words, wanted in BAD_ARGUMENTS)]:
         ran = subprocess.run([l4x, *words], stdin=subprocess.DEVNULL, capture_output=True, text=True, timeout=SECONDS)
-        told = f"l4x: wanted is {wanted}; l4x --help says what each role does\n"
+        told = f"l4x: {wanted}; l4x --help says what each role does\n"
         tally.same(f"l4x {' '.join(words)}", (ran.returncode, ran.stdout, ran.stderr), (2, "", told))
     helps = [subprocess.run([l4x, word], stdin=subprocess.DEVNULL, capture_output=True, text=True, timeout=SECONDS) for word in ("help", "--help")]
     tally.same("l4x help", *[(it.returncode, it.stdout, it.stderr) for it in helps])

@@ -50,6 +50,10 @@ TOLD = [
     ("crates/l4sh_explain/src/fields.rt", "HEX of at most (N) bits", "label_bits"),
     ("crates/l4sh_explain/src/fields.rt", "a number of words from 0 to (N)", "message_words"),
     ("crates/l4sh_explain/src/fields.rt", "a number of strings from 0 to (N)", "strings"),
+    ("crates/l4sh_explain/src/text.rt", '"at most (N) words"', "message_words"),
+    ("crates/l4sh_explain/src/text.rt", '"at most (N) strings"', "strings"),
+    ("crates/l4sh_explain/src/text.rt", "strings of at most (N) bytes together", "string_bytes"),
+    ("crates/l4sh_explain/src/text.rt", "at most (N) substrings, of all buffers together", "substrings"),
     ("crates/ipc_host/src/obstacle.rt", "const MOST_BYTES: usize = (N);", "path_bytes"),
     ("crates/ipc_host/src/obstacle.rt", "a socket's path has at most (N) bytes", "path_bytes"),
     ("crates/ipc_host/src/datagram.rt", "const MOST_PATH: usize = (N);", "path_bytes"),
@@ -59,6 +63,7 @@ TOLD = [
     ("crates/l4sh_options/specs/Command.antt", 'max_connections_text = codes "(N)"', "connections"),
     ("crates/l4x/src/table.rt", "pub const MAX_NAMES: usize = (N);", "names"),
     ("crates/l4x/src/table.rt", "pub const MAX_NAME_BYTES: usize = (N);", "name_bytes"),
+    ("crates/l4x/src/mistake.rt", "1 to (N) bytes of printable ASCII", "name_bytes"),
 ]
 # The limits whose numbers stand nowhere else by chance: crates name them.
 NAMED = ("string_bytes", "too_many_bytes", "entries", "too_many_entries", "line_bytes", "whole_line_bytes", "body_bytes", "too_long_body", "outputs",

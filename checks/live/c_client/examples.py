@@ -51,7 +51,7 @@ def check_l4x(programs, l4d, l4sh, l4x, room):
         wait_until_gone(sayer, thread_id(1))
         for asked in (["get", "7"], ["put", "7", "70"]):
             ran = subprocess.run([l4x, server.dir, *asked, "gateway"], stdin=subprocess.DEVNULL, capture_output=True, text=True, timeout=SECONDS)
-            wanted = (1, "", f"l4x: {server.dir}/space1: the gateway found no server: start l4x DIR keyvalue\n")
+            wanted = (1, "", f"l4x: {server.dir}/space1: the gateway found no server: start l4x DIR keyvalue, with --names if the gateway has it\n")
             assert (ran.returncode, ran.stdout, ran.stderr) == wanted, ran
         told = told_to(sayer)
         sayer.end()

@@ -150,11 +150,9 @@ def name_server_restarts(server, l4x, process):
         same("l4x lookup", (status, text), (0, "98.1\n"))
         text, status = looked_up(server, l4x, "nobody")
         same("l4x lookup of nobody", (status, text), (1, "nothing\n"))
-        text, status = looked_up(server, l4x, "a b")
-        check("l4x lookup of a bad name", status == 1 and "bad name" in text, text)
         for words, missing in ((["get", "1"], "there is no such server: start l4x DIR keyvalue"),
                                (["put", "1", "2", "gateway"], "there is no such server: start l4x DIR gateway"),
-                               (["get", "1", "--names"], "nobody has the name keyvalue: start l4x DIR keyvalue --names")):
+                               (["get", "1", "--names"], "nobody has the name keyvalue: start l4x DIR keyvalue --names, or wait 5 seconds for one that runs")):
             text, status = said_by(server, l4x, *words)
             same(f"l4x {' '.join(words)} where nobody serves", (status, text), (1, f"l4x: {server.folder}/space1: {missing}\n"))
     server.start([l4x, server.folder, "keyvalue", "--names"])

@@ -39,13 +39,14 @@ fn is_live<I: PortRead, O: PortWrite>(
     Ok(!has_ended)
 }
 
-/// Registers a name as the own thread.
+/// Registers a name as the own thread. The name server has this time for its answer.
 pub fn register<I: PortRead, O: PortWrite>(
     alloc: Global,
     client: &mut Client<I, O>,
     name: &str,
+    wait: Timeout,
 ) -> Result<(), Trouble> {
-    let _ = ask(alloc, client, REGISTER, name)?;
+    let _ = ask(alloc, client, REGISTER, name, wait)?;
     Ok(())
 }
 
@@ -55,7 +56,7 @@ pub fn look_up<I: PortRead, O: PortWrite>(
     client: &mut Client<I, O>,
     name: &str,
 ) -> Result<Option<ThreadId>, Trouble> {
-    let thread = ask(alloc, client, LOOK_UP, name)?;
+    let thread = ask(alloc, client, LOOK_UP, name, Timeout::never())?;
     if thread == ThreadId::NILTHREAD {
         Ok(None)
     } else {
@@ -69,12 +70,13 @@ fn ask<I: PortRead, O: PortWrite>(
     client: &mut Client<I, O>,
     label: u64,
     name: &str,
+    wait: Timeout,
 ) -> Result<ThreadId, Trouble> {
     let Some(server) = live_thread(alloc, client, NAMES_NUMBER)? else {
         return Err(Trouble::NoNames);
     };
     let request = message_with_name(alloc, label, &[], name.as_bytes())?;
-    thread_in(call(alloc, client, server, request)?)
+    thread_in(call(alloc, client, server, request, wait)?)
 }
 
 // Sends a request, and waits for its answer.
@@ -83,10 +85,10 @@ fn call<I: PortRead, O: PortWrite>(
     client: &mut Client<I, O>,
     server: ThreadId,
     request: Message,
+    wait: Timeout,
 ) -> Result<Answer, Trouble> {
-    let never = Timeout::never();
     match name_buffer(alloc) {
-        Ok(buffers) => Ok(client.call(server, request, never, never, buffers)?),
+        Ok(buffers) => Ok(client.call(server, request, wait, wait, buffers)?),
         Err(trouble) => {
             drop(request);
             Err(trouble)

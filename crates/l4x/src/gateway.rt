@@ -2,11 +2,13 @@
 //! the server answers them itself. Where there is no such server it answers that.
 use crate::calling::{Search, Server, thread_of};
 use crate::messages::{Received, message, message_of, receive_any};
+use crate::registration::Registration;
 use crate::trouble::Trouble;
 use ipc_base::{PortRead, PortWrite};
 use ipc_client::{Client, Message, Timeout};
 use ipc_words::ThreadId;
 use std::alloc::Global;
+use std::rt::Clock;
 use std::sync::Wait;
 
 /// The label of the answer to a request that no server took.
@@ -17,14 +19,16 @@ pub const NO_SERVER: u64 = 5;
 /// The message that goes on has the flag p and shows who asked as its VirtualSender. Who asked
 /// waits for the gateway alone. When the transfer begins that wait is turned to the server, so the
 /// answer does not come through here.
-pub fn serve<I: PortRead, O: PortWrite, R: Wait>(
+pub fn serve<I: PortRead, O: PortWrite, R: Wait + Clock + Eprint>(
     rt: &R,
     alloc: Global,
     client: &mut Client<I, O>,
-    search: Search,
+    registration: Registration,
 ) -> Result<(), Trouble> {
+    let mut registration = registration;
     for _ in rt.forever() {
-        serve_next(alloc, client, search)?;
+        registration.keep(rt, alloc, client)?;
+        serve_next(alloc, client, &registration)?;
     }
     Ok(())
 }
@@ -33,11 +37,13 @@ pub fn serve<I: PortRead, O: PortWrite, R: Wait>(
 fn serve_next<I: PortRead, O: PortWrite>(
     alloc: Global,
     client: &mut Client<I, O>,
-    search: Search,
+    registration: &Registration,
 ) -> Result<(), Trouble> {
-    match message_of(receive_any(alloc, client)?)? {
-        Ok(request) => answer(alloc, client, search, request),
-        Err(_) => Ok(()),
+    match message_of(receive_any(alloc, client, registration.patience())?)? {
+        Ok(request) if !registration.is_answer(request.sender) => {
+            answer(alloc, client, registration.search(), request)
+        }
+        _ => Ok(()),
     }
 }
 
@@ -83,11 +89,12 @@ fn pass<I: PortRead, O: PortWrite>(
     }
 }
 
-// False where the trouble is only that there is no such server.
+// False where the trouble is only that there is no such server, or none that knows its name.
 fn unless_gone(trouble: Trouble) -> Result<bool, Trouble> {
     match trouble {
         Trouble::NoThread(..) => Ok(false),
-        _ => Err(trouble),
+        other if other.passes() => Ok(false),
+        other => Err(other),
     }
 }
 

@@ -1,10 +1,12 @@
 //! A server that keeps words by words.
 use crate::messages::{Received, message, message_of, receive_any};
+use crate::registration::Registration;
 use crate::trouble::Trouble;
 use ipc_base::{PortRead, PortWrite};
-use ipc_client::{Answer, Buffers, Client, Message, Timeout};
+use ipc_client::{Answer, Buffers, Client, Message};
 use std::alloc::Global;
 use std::collections::BTreeMap;
+use std::rt::Clock;
 use std::sync::Wait;
 
 /// The label of a request that puts its second word under its first one.
@@ -20,55 +22,65 @@ pub const FOUND: u64 = 3;
 pub const NOTHING: u64 = 4;
 
 /// Answers requests for ever. A caller that does not wait for its answer gets none.
-pub fn serve<I: PortRead, O: PortWrite, R: Wait>(
+pub fn serve<I: PortRead, O: PortWrite, R: Wait + Clock + Eprint>(
     rt: &R,
     alloc: Global,
     client: &mut Client<I, O>,
+    registration: Registration,
 ) -> Result<(), Trouble> {
+    let mut registration = registration;
     let mut table = BTreeMap::new(alloc);
-    let served = serve_from(rt, alloc, client, &mut table);
+    let served = serve_from(rt, alloc, client, &mut registration, &mut table);
     drop(table);
     served
 }
 
 /// The same from a table that is kept.
-fn serve_from<I: PortRead, O: PortWrite, R: Wait>(
+fn serve_from<I: PortRead, O: PortWrite, R: Wait + Clock + Eprint>(
     rt: &R,
     alloc: Global,
     client: &mut Client<I, O>,
+    registration: &mut Registration,
     table: &mut BTreeMap<u64, u64>,
 ) -> Result<(), Trouble> {
     let mut waiting = None;
     for _ in rt.forever() {
-        waiting = next_request(alloc, client, table, waiting)?;
+        registration.keep(rt, alloc, client)?;
+        waiting = next_request(alloc, client, registration, table, waiting)?;
     }
     Ok(())
 }
 
-/// Answers the request that waits, if any, and receives the next one.
+/// Answers the request that waits, if any, and receives the next one. None: there is none before
+/// the name is registered again.
 fn next_request<I: PortRead, O: PortWrite>(
     alloc: Global,
     client: &mut Client<I, O>,
+    registration: &Registration,
     table: &mut BTreeMap<u64, u64>,
     waiting: Option<Received>,
 ) -> Result<Option<Received>, Trouble> {
     let next = match waiting {
-        Some(request) => answer_and_wait(alloc, client, table, request),
-        None => receive_any(alloc, client),
+        Some(request) => answer_and_wait(alloc, client, registration, table, request),
+        None => receive_any(alloc, client, registration.patience()),
     };
-    Ok(message_of(next?)?.ok())
+    match message_of(next?)? {
+        Ok(request) if !registration.is_answer(request.sender) => Ok(Some(request)),
+        _ => Ok(None),
+    }
 }
 
 /// Answers a request, and receives the next one.
 fn answer_and_wait<I: PortRead, O: PortWrite>(
     alloc: Global,
     client: &mut Client<I, O>,
+    registration: &Registration,
     table: &mut BTreeMap<u64, u64>,
     request: Received,
 ) -> Result<Answer, Trouble> {
     let answer = answer(alloc, table, request)?;
     let buffers = Buffers::none(alloc);
-    Ok(client.reply_wait(request.sender, answer, Timeout::never(), buffers)?)
+    Ok(client.reply_wait(request.sender, answer, registration.patience(), buffers)?)
 }
 
 /// The answer to a request.

@@ -12,6 +12,7 @@ mod messages;
 mod mistake;
 mod names;
 mod naming;
+mod registration;
 mod role;
 mod sleeper;
 mod standing;
@@ -23,6 +24,7 @@ use ipc_base::{Failures, PortRead, PortWrite, ReadPort, WritePort};
 use ipc_client::{Client, PATIENCE, PatientStream, Waiter};
 use ipc_words::ThreadId;
 use mistake::Mistake;
+use registration::Registration;
 use role::{Role, Task};
 use std::alloc::Global;
 use std::io::{self, ErrorKind};
@@ -30,6 +32,7 @@ use std::marker::Brand;
 use std::net::Net;
 use std::os::unix::net::UnixStream;
 use std::process::ExitCode;
+use std::rt::Clock;
 use std::sync::Wait;
 use std::sync::atomic::{AtomicBool, Ordering};
 use std::sync::ledger::{Blank, Ledger};
@@ -50,7 +53,7 @@ fn words_of(rt: &HostRuntime, alloc: Global) -> Option<Vec<String>> {
 }
 
 /// Does what the words ask for, and answers the status of the program.
-fn obey_words<R: Net + Wait + Print + Eprint>(
+fn obey_words<R: Net + Wait + Clock + Print + Eprint>(
     rt: &R,
     alloc: Global,
     words: &[String],
@@ -82,7 +85,7 @@ fn ask_for_help(words: &[String]) -> bool {
 }
 
 /// Plays the role that the words name, over a connection of its own.
-fn obey<R: Net + Wait + Print + Eprint>(
+fn obey<R: Net + Wait + Clock + Print + Eprint>(
     rt: &R,
     alloc: Global,
     words: &[String],
@@ -110,6 +113,7 @@ fn connect<R: Net>(rt: &R, alloc: Global, dir: &str) -> Result<UnixStream, Troub
 fn unconnected(kind: ErrorKind) -> Trouble {
     match kind {
         ErrorKind::PermissionDenied => Trouble::Denied,
+        ErrorKind::ConnectionRefused => Trouble::Closed,
         _ => Trouble::NoServer,
     }
 }
@@ -133,7 +137,7 @@ impl<R: Eprint> Waiter for Player<'_, R> {
 
 /// Plays a role over a connection. Each count of failures begins as a blank. A server that does not
 /// say WELCOME in its time is silent.
-fn start<L: Ledger, M: Ledger, R: Wait + Print + Eprint>(
+fn start<L: Ledger, M: Ledger, R: Wait + Clock + Print + Eprint>(
     rt: &R,
     alloc: Global,
     stream: &UnixStream,
@@ -160,7 +164,7 @@ fn start<L: Ledger, M: Ledger, R: Wait + Print + Eprint>(
 }
 
 /// Says HELLO as the thread of the role, plays it, and says BYE.
-fn play<I: PortRead, O: PortWrite, R: Wait + Print>(
+fn play<I: PortRead, O: PortWrite, R: Wait + Clock + Print + Eprint>(
     rt: &R,
     alloc: Global,
     client: &mut Client<I, O>,
@@ -173,7 +177,7 @@ fn play<I: PortRead, O: PortWrite, R: Wait + Print>(
 }
 
 /// Does what a role does between HELLO and BYE.
-fn perform<I: PortRead, O: PortWrite, R: Wait + Print>(
+fn perform<I: PortRead, O: PortWrite, R: Wait + Clock + Print + Eprint>(
     rt: &R,
     alloc: Global,
     client: &mut Client<I, O>,
@@ -229,25 +233,25 @@ fn look_up<I: PortRead, O: PortWrite, R: Print>(
 }
 
 /// The key-value server.
-fn serve_words<I: PortRead, O: PortWrite, R: Wait>(
+fn serve_words<I: PortRead, O: PortWrite, R: Wait + Clock + Eprint>(
     rt: &R,
     alloc: Global,
     client: &mut Client<I, O>,
     search: Search,
 ) -> Result<(), Trouble> {
-    announce(alloc, client, Server::KeyValue, search)?;
-    keyvalue::serve(rt, alloc, client)
+    let registration = Registration::new(rt, alloc, client, Server::KeyValue, search)?;
+    keyvalue::serve(rt, alloc, client, registration)
 }
 
 /// The gateway.
-fn pass_on<I: PortRead, O: PortWrite, R: Wait>(
+fn pass_on<I: PortRead, O: PortWrite, R: Wait + Clock + Eprint>(
     rt: &R,
     alloc: Global,
     client: &mut Client<I, O>,
     search: Search,
 ) -> Result<(), Trouble> {
-    announce(alloc, client, Server::Gateway, search)?;
-    gateway::serve(rt, alloc, client, search)
+    let registration = Registration::new(rt, alloc, client, Server::Gateway, search)?;
+    gateway::serve(rt, alloc, client, registration)
 }
 
 /// The name server.
@@ -259,19 +263,6 @@ fn serve_names<I: PortRead, O: PortWrite, R: Wait + Print>(
 ) -> Result<(), Trouble> {
     say_names(rt, own)?;
     names::serve(rt, alloc, client)
-}
-
-/// Registers a server under its name, where servers are looked for by names.
-fn announce<I: PortRead, O: PortWrite>(
-    alloc: Global,
-    client: &mut Client<I, O>,
-    server: Server,
-    search: Search,
-) -> Result<(), Trouble> {
-    match search {
-        Search::Number => Ok(()),
-        Search::Name => finding::register(alloc, client, server.name()),
-    }
 }
 
 /// Prints a word, or `nothing`.

@@ -29,12 +29,13 @@ pub fn greet<I: PortRead, O: PortWrite>(
     }
 }
 
-/// Receives the next message of any thread. Strings are not taken.
+/// Receives the next message of any thread within this time. Strings are not taken.
 pub fn receive_any<I: PortRead, O: PortWrite>(
     alloc: Global,
     client: &mut Client<I, O>,
+    wait: Timeout,
 ) -> Result<Answer, Trouble> {
-    Ok(client.receive(ThreadId::ANYTHREAD, Timeout::never(), Buffers::none(alloc))?)
+    Ok(client.receive(ThreadId::ANYTHREAD, wait, Buffers::none(alloc))?)
 }
 
 /// The message that a call brought, or the ErrorCode of a call that failed.

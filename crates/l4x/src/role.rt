@@ -1,6 +1,7 @@
 //! What a process is in these examples.
 use crate::calling::{Search, Server};
 use crate::naming::NAMES_NUMBER;
+use crate::table::is_name;
 
 /// What a process is, and what it wants. Numbers are decimal.
 #[derive(Clone, Copy)]
@@ -109,7 +110,7 @@ impl<'a> Role<'a> {
 
     fn look_up(words: &'a [String]) -> Option<Role<'a>> {
         match words {
-            [name] => Some(Role::LookUp(name.as_str())),
+            [name] if is_name(name.as_bytes()) => Some(Role::LookUp(name.as_str())),
             _ => None,
         }
     }
@@ -163,6 +164,7 @@ fn server_in(words: &[String]) -> Option<Server> {
     }
 }
 
-fn number(word: &String) -> Option<u64> {
+/// The number of a word, a decimal of at most 64 bits.
+pub fn number(word: &String) -> Option<u64> {
     word.as_str().parse::<u64>().ok()
 }

@@ -35,8 +35,8 @@ impl Name {
     }
 }
 
-// Whether these bytes make a name.
-fn is_name(bytes: &[u8]) -> bool {
+/// Whether these bytes make a name.
+pub fn is_name(bytes: &[u8]) -> bool {
     if bytes.is_empty() || bytes.len() > MAX_NAME_BYTES {
         return false;
     }

@@ -1,6 +1,7 @@
 //! Why a role ends.
 use crate::calling::{Search, Server};
 use crate::naming::NameError;
+use crate::registration::KEPT_FOR;
 use ipc_client::{BufferFault, ClientError, MessageFault, PATIENCE};
 use ipc_frame::FrameFault;
 use ipc_words::IpcError;
@@ -22,6 +23,10 @@ pub const USAGE: &str = "usage: l4x DIR ROLE, where the role is one of
 With --names as the last word a server registers as keyvalue or gateway, and who looks for one asks the name server.
 Without it a server is looked for by its thread number.";
 
+/// What is said where a path refuses connections.
+const CLOSED: &str =
+    "nobody listens there any more: its l4d has ended, or the path has had its --connections: start l4d anew, with --replace or --keep-open";
+
 /// Why a role ends before its work is done.
 #[derive(Clone, Copy)]
 pub enum Trouble {
@@ -31,6 +36,8 @@ pub enum Trouble {
     NoMemory,
     /// Nobody listens in the folder.
     NoServer,
+    /// A socket stands in the folder, and nobody listens there any more.
+    Closed,
     /// This user may not connect there.
     Denied,
     /// The server does not say WELCOME in its time.
@@ -64,14 +71,24 @@ impl Trouble {
             Trouble::Usage => "the words name no role",
             Trouble::NoMemory => "no memory",
             Trouble::NoServer => "nobody listens there: start l4d with this folder",
+            Trouble::Closed => CLOSED,
             Trouble::Denied =>
                 "no permission to connect: the modes of this path and its folder say who may",
             Trouble::NoOutput => "standard output failed",
             Trouble::LongMessage => "the message is past its limits",
             Trouble::NoNames => "there is no name server: start l4x DIR names",
-            Trouble::NotPassed => "the gateway found no server: start l4x DIR keyvalue",
+            Trouble::NotPassed =>
+                "the gateway found no server: start l4x DIR keyvalue, with --names if the gateway has it",
             _ => "nobody has that name",
         }
+    }
+
+    /// Whether it is only that a name server is not there, or does not do what it was asked for.
+    pub fn passes(self) -> bool {
+        matches!(
+            self,
+            Trouble::NoNames | Trouble::Name(_) | Trouble::Failed(_)
+        )
     }
 
     /// The exit status: 2 for bad words, else 1.
@@ -115,10 +132,7 @@ impl fmt::Display for Trouble {
                 f,
                 "no WELCOME within {PATIENCE} seconds: the server is full, or does not answer"
             ),
-            Trouble::Refused(number) => {
-                write!(f, "refused: K{number}")?;
-                put_meaning(f, b'K', *number)
-            }
+            Trouble::Refused(number) => put_refused(f, *number),
             Trouble::Failed(code) => {
                 let cause = cause_of(IpcError::from_word(*code));
                 write!(f, "the call failed: error {code:#x}: {cause}")
@@ -140,8 +154,18 @@ fn put_missing<W: fmt::Write>(
         Search::Number => write!(f, "there is no such server: start l4x DIR {role}"),
         Search::Name => write!(
             f,
-            "nobody has the name {role}: start l4x DIR {role} --names"
+            "nobody has the name {role}: start l4x DIR {role} --names, or wait {KEPT_FOR} seconds for one that runs"
         ),
+    }
+}
+
+// What the kernel refused, and what helps where another program is that thread.
+fn put_refused<W: fmt::Write>(f: &mut fmt::Formatter<W>, number: u8) -> fmt::Result {
+    write!(f, "refused: K{number}")?;
+    put_meaning(f, b'K', number)?;
+    match number {
+        2 => f.write_str("; end the program that has it, or wait until it has ended"),
+        _ => Ok(()),
     }
 }
 

@@ -64,8 +64,8 @@ def check_words(l4x):
             tally.same(f"l4x behind {frame or 'nothing'}", (ran.returncode, ran.stdout, ran.stderr), (1, "", f"l4x: {folder}/space1: {words}\n"))
 
 
-def check_unconnected(l4x):
-    """What l4x says where it cannot connect: where nobody listens, and to the user nobody where another user's server listens."""
+def check_unconnected(l4sh, l4x):
+    """What l4x and `l4sh talk` say where they cannot connect: where nobody listens, or no more, and to the user nobody where another user's server listens."""
     with tempfile.TemporaryDirectory() as folder:
         ran = subprocess.run([l4x, folder, "names"], stdin=subprocess.DEVNULL, capture_output=True, text=True, timeout=SECONDS)
         tally.same("l4x where nobody listens", (ran.returncode, ran.stderr), (1, f"l4x: {folder}/space1: nobody listens there: start l4d with this folder\n"))
@@ -74,6 +74,10 @@ def check_unconnected(l4x):
         ran = subprocess.run([l4x, folder, "names"], stdin=subprocess.DEVNULL, capture_output=True, text=True, timeout=SECONDS)
         why = "nobody listens there any more: its l4d has ended, or the path has had its --connections: start l4d anew, with --replace or --keep-open"
         tally.same("l4x where nobody listens any more", (ran.returncode, ran.stderr), (1, f"l4x: {folder}/space1: {why}\n"))
+        ran = subprocess.run([l4sh, "talk", folder], stdin=subprocess.DEVNULL, capture_output=True, text=True, timeout=SECONDS)
+        why = "nobody listens there: its l4d has ended, and --replace serves anew; or the path has had its --connections, and --keep-open helps"
+        told = f"l4sh: no server\n{folder}/space1: Connection refused (os error 111): {why}\n"
+        tally.same("l4sh talk where nobody listens any more", (ran.returncode, ran.stderr), (4, told))
         os.remove(f"{folder}/space1")
         if os.getuid() != 0 or not shutil.which("setpriv"):
             print("another user: left out, since root and setpriv are wanted")
@@ -161,7 +165,7 @@ def check_late(l4sh):
 def main(arguments):
     l4sh, l4x = programs_of(arguments, __doc__, 2)
     check_words(l4x)
-    check_unconnected(l4x)
+    check_unconnected(l4sh, l4x)
     check_mistakes(l4x)
     check_late(l4sh)
     with tempfile.TemporaryDirectory() as folder:

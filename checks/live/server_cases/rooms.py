@@ -109,6 +109,47 @@ def few_connections():
         return f"the third connection was served after {spent:.1f} s, when the silent one was closed"
 
 
+def is_refused(path):
+    """Whether who connects to a path is refused at once."""
+    with socket.socket(socket.AF_UNIX) as late:
+        late.settimeout(5)
+        try:
+            late.connect(path)
+        except ConnectionRefusedError:
+            return True
+        return False
+
+
+def closed_path():
+    """A path that has had its connections refuses further ones at once, those that wait there, too; its server goes on, and ends with the last of them."""
+    for words, told in ((("--log",), True), ((), False)):
+        with served("--connections", "2", *words) as server:
+            pair = Client(server.path, 1), Client(server.path, 2)
+            time.sleep(0.5)
+            assert is_refused(server.path)
+            pair_works(pair)
+            assert "in use" in run("--dir", server.folder, "--spaces", "1", "--replace")[2]
+            for client in pair:
+                client.bye()
+            status, out, err = server.end()
+            assert (status, out) == (0, "closed\n") and not os.path.exists(server.path), (status, out, err)
+            line = f"l4d: {server.path} refuses connections from now on, since it has had 2: a greater --connections helps, or --keep-open\n"
+            assert (line in err) == told and (told or err == ""), err
+    with served("--connections", "2", "--live", "1") as server:
+        # the second one waits for room, and the third one waits to be accepted
+        one, two, three = Client(server.path, 1), Client(server.path), Client(server.path)
+        two.line.sendall(hello(2))
+        time.sleep(0.5)
+        one.bye()
+        assert two.hear()[0] == WELCOME
+        assert three.is_shut(5) and is_refused(server.path)
+        two.bye()
+        status, out, err = server.end()
+        assert (status, out) == (0, "closed\n"), (status, out, err)
+        has(err, f"l4d: {server.path} refuses connections from now on, since it has had 2")
+    return err.strip().splitlines()[-1]
+
+
 def few_tasks():
     """A server that may start no further worker closes the connection, tells it once, and serves on."""
     if not shutil.which("prlimit") or os.getuid() != 0:

@@ -87,7 +87,7 @@ class Connecting(unittest.TestCase):
     def test_nobody_listens(self):
         with Listener() as there:
             there.listens().listener.close()
-            self.fails(ConnectionRefusedError, there.folder, there.path, "has ended")
+            self.fails(ConnectionRefusedError, there.folder, there.path, "has ended", "has had its --connections")
 
     def test_who_drops_a_thread_ends_its_connection(self):
         thread, server = scripted(b"", ends=False)

@@ -162,8 +162,8 @@ where
 }
 
 /// Takes connections until the path has had its number, if it has one, or the service is stopped,
-/// and starts a worker for each. An accept that fails counts for nothing: it is tried again once a
-/// connection has ended, or after 10 milliseconds.
+/// and starts a worker for each. Who comes behind that number is refused. An accept that fails
+/// counts for nothing: it is tried again once a connection has ended, or after 10 milliseconds.
 fn accept<C: Naming + Send, T: Ledger + Send, R>(
     server: &Server<'_, C, T, SocketPort, R>,
     host: &Host,
@@ -177,7 +177,11 @@ where
     thread::scope(thread::scope_env(), rt, |scope| {
         let mut taken = 0u16;
         for _ in rt.forever() {
-            if host.closes_after(taken) || host.guests.is_stopping(rt) {
+            if host.guests.is_stopping(rt) {
+                return;
+            }
+            if host.closes_after(taken) {
+                host.close_path(rt, listener);
                 return;
             }
             match listener.door.accept() {

@@ -76,6 +76,20 @@ impl Host {
         }
     }
 
+    /// Closes a path that has had its connections. It is told, and what helps, where nobody asked
+    /// for that number, where somebody was waiting, and in the log.
+    pub(crate) fn close_path<R: Eprint>(&self, rt: &R, listener: &Listener) {
+        let refused = listener.door.close_to_all();
+        let most = self.connections.unwrap_or(u16::MAX);
+        if self.is_logged || refused > 0 || most == u16::MAX {
+            let path = &listener.door.path;
+            // where standard error fails the line is lost
+            let _ = eprintln!(rt;
+                "l4d: {path} refuses connections from now on, since it has had {most}: a greater --connections helps, or --keep-open"
+            );
+        }
+    }
+
     /// Whether SIGINT and SIGTERM may have been blocked where the program was started, so that they
     /// end the service.
     pub(crate) fn has_blocked_signals(&self, alloc: Global) -> bool {

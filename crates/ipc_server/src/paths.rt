@@ -11,6 +11,9 @@ use std::os::unix::net::{UnixListener, UnixStream};
 use std::rt::Files;
 use std::{fs, io};
 
+/// How many connections may wait to be accepted, at most: net.core.somaxconn.
+const MOST_WAITING: u16 = 65_535;
+
 /// A path, and the socket that listens there.
 #[derive(Drop)]
 pub struct Door {
@@ -27,9 +30,22 @@ impl Door {
         Ok(stream)
     }
 
-    /// Ends an accept that waits, and each later one.
+    /// Ends an accept that waits, and each later one. Who connects from now on is refused.
     pub(crate) fn close(&self) {
         let _ = self.closer.shutdown(Shutdown::Both);
+    }
+
+    /// Closes it, and each connection that waits to be accepted. How many these were.
+    pub(crate) fn close_to_all(&self) -> u16 {
+        self.close();
+        let mut refused = 0u16;
+        for _ in 0..MOST_WAITING {
+            if self.accept().is_err() {
+                break;
+            }
+            refused = refused.saturating_add(1);
+        }
+        refused
     }
 }
 

@@ -6,6 +6,7 @@ use ipc_client::{Client, PATIENCE, PatientStream, Waiter};
 use l4sh_options::TalkOptions;
 use l4sh_talk::{Ending, talk_to};
 use std::alloc::{AllocError, Global};
+use std::io::{self, ErrorKind};
 use std::marker::Brand;
 use std::net::Net;
 use std::os::unix::net::UnixStream;
@@ -77,8 +78,18 @@ fn talk_at<N: Net + Eprint, R: PortRead, W: PortWrite>(
         Ok(stream) => talk_along(rt, alloc, path, &stream, number, reader, writer),
         Err(error) => Talked {
             ending: Ending::NoServer,
-            reason: connect_reason(alloc, path, &error).ok(),
+            reason: space_reason(alloc, path, &error).ok(),
         },
+    }
+}
+
+// Why there is nobody to connect to at the path of a space, and what helps.
+fn space_reason(alloc: Global, path: &str, error: &io::Error) -> Result<String, AllocError> {
+    match error.kind() {
+        ErrorKind::ConnectionRefused => format!(in alloc;
+            "{path}: {error}: nobody listens there: its l4d has ended, and --replace serves anew; or the path has had its --connections, and --keep-open helps"
+        ),
+        _ => connect_reason(alloc, path, error),
     }
 }
 

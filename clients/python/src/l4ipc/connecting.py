@@ -29,7 +29,7 @@ PATIENCE = 1.0
 _MOST_READ = 65_536
 _HELP = {
     errno.ENOENT: "no such path{waited}: start l4d --dir DIR with the folder DIR{spaces}",
-    errno.ECONNREFUSED: "nobody listens at that path, since its l4d has ended",
+    errno.ECONNREFUSED: "nobody listens at that path: its l4d has ended, or the path has had its --connections (--keep-open helps)",
     errno.EACCES: "no permission to connect: who may is in the mode of the path and of its folder",
     errno.ETIMEDOUT: "l4d does not answer: it is full (its --live and --keep-open, and its descriptors), or it is stopped",
 }

@@ -1,5 +1,6 @@
 pub mod ReadLemmas
 pub mod ClientLemmas
+pub mod WireLemmas
 pub mod BuildLemmas
 pub mod CutLemmas
 pub mod PeriodLemmas

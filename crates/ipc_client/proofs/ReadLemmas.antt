@@ -3,8 +3,8 @@ use Rattle.std.proofs.Common.{◌≡◌, ◌≢◌, ℕ, ◌≤◌, List, [], �
 use Rattle.std.proofs.Common.{IsOk, is_err, true, OnOk, length, take, drop, sym, ap, subst, ◌∙◌, arith}
 use Rattle.std.proofs.lemmas.List.{append-nil, drop_all}
 use Rattle.std.proofs.Math.Seq.{take-append_seam, drop-append_seam}
-use Rattle.std.proofs.KnownBytes.{Consumes-trans}
-use Rattle.std.specs.Io.KnownBytes.{Consumes}
+use Rattle.ipc_base.proofs.Giving.{gives_then}
+use Rattle.ipc_base.specs.Ports.{Gives, Input}
 use Rattle.ipc_frame.specs.declared.fault.FrameFault.{FrameFault}
 use Rattle.ipc_frame.specs.declared.fault.FrameFault.TheVariants as fault
 use Rattle.ipc_frame.specs.declared.frame.Frame.{Frame}
@@ -40,14 +40,14 @@ tight_more side before after part wanted joined few short are f n whole =
     ∙ ap length (sym joined)
 
 -- a whole frame
-pub whole_taken : (side : Side) (a b : Option (List ℕ)) (bytes : List ℕ) (f : Frame) (n : ℕ)
-    → IsBytes bytes → Consumes a b bytes → IsTight side bytes → reading side bytes ≡ Whole f n
+pub whole_taken : (side : Side) (a b : Input) (bytes : List ℕ) (f : Frame) (n : ℕ)
+    → IsBytes bytes → Gives a b bytes → IsTight side bytes → reading side bytes ≡ Whole f n
     → TakesFrame side a b f
 whole_taken side a b bytes f n are taken tight whole =
     let begins = reading_begins side bytes f n are whole in
     let none : drop n bytes ≡ [] = drop_all n bytes (omega (arith, tight are f n whole)) in
     let same : spelling f ≡ bytes = sym (append-nil (spelling f)) ∙ (ap (λ xs. spelling f ++ xs) (sym none) ∙ begins.text) in
-    record { is = begins.is; side_is = begins.side_is; taken = subst (Consumes a b) (sym same) taken }
+    record { is = begins.is; side_is = begins.side_is; taken = subst (Gives a b) (sym same) taken }
 
 format_shows : (shown : FrameFault) (r : Reading) (new : Option (List ℕ)) → IsFormatFault shown
     → r ≡ Bad shown → ShowsFault shown r new
@@ -73,9 +73,9 @@ no_device fault.Interrupted h k = h
 no_device _ h k = k
 
 -- bytes that show a fault
-pub bad_taken : (side : Side) (a b : Option (List ℕ)) (bytes : List ℕ) (shown : FrameFault)
-    → Consumes a b bytes → reading side bytes ≡ Bad shown → TakesNoFrame side a b shown
-bad_taken side a b bytes shown taken bad = (bytes, taken, format_shows shown _ b (bad_formats side bytes shown bad) bad)
+pub bad_taken : (side : Side) (a b : Input) (bytes : List ℕ) (shown : FrameFault)
+    → Gives a b bytes → reading side bytes ≡ Bad shown → TakesNoFrame side a b shown
+bad_taken side a b bytes shown taken bad = (bytes, taken, format_shows shown _ b.left (bad_formats side bytes shown bad) bad)
 
 -- which is none of the device
 pub bad_is_no_device : (side : Side) (bytes : List ℕ) (shown : FrameFault)
@@ -88,22 +88,22 @@ pub bad_is_memory : (side : Side) (bytes : List ℕ) (shown : FrameFault)
 bad_is_memory side bytes shown bad none = subst IsFormatFault none (bad_formats side bytes shown bad)
 
 -- bytes of which the next part does not come
-nothing_more : (a b c : Option (List ℕ)) (bytes : List ℕ) → Consumes a b bytes → Consumes b c [] → Consumes a c bytes
-nothing_more a b c bytes taken none = subst (Consumes a c) (append-nil bytes) (Consumes-trans a b c bytes [] taken none)
+nothing_more : (a b c : Input) (bytes : List ℕ) → Gives a b bytes → Gives b c [] → Gives a c bytes
+nothing_more a b c bytes taken none = subst (Gives a c) (append-nil bytes) (gives_then a b c bytes [] taken none)
 
-pub part_missing : (side : Side) (a b c : Option (List ℕ)) (bytes : List ℕ) (wanted : ℕ)
-    (shown : FrameFault) → Consumes a b bytes → reading side bytes ≡ Short wanted
+pub part_missing : (side : Side) (a b c : Input) (bytes : List ℕ) (wanted : ℕ)
+    (shown : FrameFault) → Gives a b bytes → reading side bytes ≡ Short wanted
     → TakesNoPart b c shown → TakesNoFrame side a c shown
 part_missing side a b c bytes wanted fault.Unfinished taken short h =
     (bytes, nothing_more a b c bytes taken h.0, ((wanted, short), h.1))
 part_missing side a b c bytes wanted fault.Device taken short h = (bytes, nothing_more a b c bytes taken h, (wanted, short))
 part_missing side a b c bytes wanted fault.Interrupted taken short h = (bytes, nothing_more a b c bytes taken h, (wanted, short))
-part_missing side a b c bytes wanted fault.NoMemory taken short h = (bytes ++ h.0, Consumes-trans a b c bytes h.0 taken h.1, tt)
+part_missing side a b c bytes wanted fault.NoMemory taken short h = (bytes ++ h.0, gives_then a b c bytes h.0 taken h.1, tt)
 part_missing side a b c bytes wanted _ taken short h = absurd h
 
 -- no memory
-pub memory_missing : (side : Side) (a b : Option (List ℕ)) (bytes : List ℕ) (shown : FrameFault)
-    → Consumes a b bytes → shown ≡ fault.NoMemory → TakesNoFrame side a b shown
+pub memory_missing : (side : Side) (a b : Input) (bytes : List ℕ) (shown : FrameFault)
+    → Gives a b bytes → shown ≡ fault.NoMemory → TakesNoFrame side a b shown
 memory_missing side a b bytes shown taken none = rw none (bytes, taken, tt)
 
 pub memory_is_no_device : (shown : FrameFault) → shown ≡ fault.NoMemory → IsDeviceFault shown → ⊥

@@ -18,7 +18,7 @@ use Rattle.ipc_client.specs.declared.answer.Answer.{Answer}
 use Rattle.ipc_client.specs.declared.answer.Answer.TheVariants as answer
 use Rattle.ipc_client.specs.declared.answer.Registers.{Registers}
 use Rattle.ipc_client.specs.declared.answer.Registers.TheVariants as registers
-use Rattle.ipc_client.specs.ClientParts.{ClientParts}
+use Rattle.ipc_client.specs.ClientParts.{ClientParts, Notes, NotesLast}
 use Rattle.ipc_client.specs.Devices.{IsDeviceFault}
 use Rattle.ipc_client.specs.Reading.{TakesFrame, TakesNoFrame}
 use Rattle.ipc_base.specs.Ports.{AppendsFront}
@@ -41,7 +41,8 @@ registers_frame (registers.Refused number) = frame.Refused number
 pub record Exchanges (old new : ClientParts) (asked answered : Frame) : Type 0 where
   pub was_open : old.is_closed ≡ false
   pub sent : Appends old.written new.written (spelling asked)
-  pub read : TakesFrame Client old.remaining new.remaining answered
+  pub read : TakesFrame Client old.input new.input answered
+  pub noted : Notes old new asked answered
   pub reader : new.read_failures ≡ old.read_failures
   pub writer : new.write_failures ≡ old.write_failures
 
@@ -55,7 +56,8 @@ pub record FailsToSend (old new : ClientParts) (asked : Frame) (fault : FrameFau
   pub front : AppendsFront old.written new.written (spelling asked)
   pub device : IsDeviceFault fault
   pub failed : old.write_failures < new.write_failures
-  pub unread : new.remaining ≡ old.remaining
+  pub unread : new.input ≡ old.input
+  pub noted : NotesLast old new asked
   pub reader : new.read_failures ≡ old.read_failures
 
 -- the frame went out, and no frame came: the bytes that were read show the fault, or the reader
@@ -63,7 +65,8 @@ pub record FailsToSend (old new : ClientParts) (asked : Frame) (fault : FrameFau
 pub record FailsToRead (old new : ClientParts) (asked : Frame) (fault : FrameFault) : Type 0 where
   pub sent : Appends old.written new.written (spelling asked)
   pub writer : new.write_failures ≡ old.write_failures
-  pub read : TakesNoFrame Client old.remaining new.remaining fault
+  pub read : TakesNoFrame Client old.input new.input fault
+  pub noted : NotesLast old new asked
   pub failed : IsDeviceFault fault → old.read_failures < new.read_failures
 
 -- the frame of a call that is past the limits was not made, and nothing was written or read
@@ -136,7 +139,8 @@ IsWithheld old new parts result =
 pub record SaysBye (old new : ClientParts) : Type 0 where
   pub was_open : old.is_closed ≡ false
   pub sent : Appends old.written new.written (spelling frame.Bye)
-  pub unread : new.remaining ≡ old.remaining
+  pub unread : new.input ≡ old.input
+  pub noted : NotesLast old new frame.Bye
   pub reader : new.read_failures ≡ old.read_failures
   pub writer : new.write_failures ≡ old.write_failures
   pub closed : new.is_closed ≡ true

@@ -2,6 +2,7 @@ pub mod Devices
 pub mod Reading
 pub mod Messages
 pub mod ClientParts
+pub mod Wires
 pub mod Asking
 pub mod Timeouts
 pub mod Building

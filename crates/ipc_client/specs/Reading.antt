@@ -1,6 +1,7 @@
 -- What reading a frame takes from a port.
 use Rattle.std.specs.Prelude.{◌≡◌, ℕ, ◌≤◌, ◌<◌, List, [], ◌++◌, Option, length, ⊤}
-use Rattle.std.specs.Io.KnownBytes.{Consumes, IsAtEnd}
+use Rattle.std.specs.Io.KnownBytes.{IsAtEnd}
+use Rattle.ipc_base.specs.Ports.{Gives, Input}
 use Rattle.ipc_frame.specs.declared.fault.FrameFault.{FrameFault}
 use Rattle.ipc_frame.specs.declared.fault.FrameFault.TheVariants as fault
 use Rattle.ipc_frame.specs.declared.frame.Frame.{Frame}
@@ -8,11 +9,11 @@ use Rattle.ipc_frame.specs.declared.kind.Side.{Side}
 use Rattle.ipc_frame.specs.Frames.{kind_of, side_of, spelling, IsFrame}
 use Rattle.ipc_frame.specs.Reading.{Reading, Short, Bad, reading}
 
--- a frame that a side is sent was taken, and nothing more
-pub record TakesFrame (side : Side) (old new : Option (List ℕ)) (frame : Frame) : Type 0 where
+-- a frame that a side is sent came, and nothing more
+pub record TakesFrame (side : Side) (old new : Input) (frame : Frame) : Type 0 where
   pub is : IsFrame frame
   pub side_is : side_of (kind_of frame) ≡ side
-  pub taken : Consumes old new (spelling frame)
+  pub taken : Gives old new (spelling frame)
 
 -- no whole frame is there, and no fault shows
 abbrev pub IsShort : Reading → Type 0
@@ -27,23 +28,23 @@ ShowsFault fault.Interrupted shown new = IsShort shown
 ShowsFault fault.NoMemory shown new = ⊤
 ShowsFault other shown new = shown ≡ Bad other
 
-abbrev pub TakesNoFrame : Side → Option (List ℕ) → Option (List ℕ) → FrameFault → Type 0
-TakesNoFrame side old new fault = (bytes : List ℕ) × Consumes old new bytes × ShowsFault fault (reading side bytes) new
+abbrev pub TakesNoFrame : Side → Input → Input → FrameFault → Type 0
+TakesNoFrame side old new fault = (bytes : List ℕ) × Gives old new bytes × ShowsFault fault (reading side bytes) new.left
 
 -- one read: at most so many bytes were taken, and at least one, and stand behind those that are
 -- held
-pub record TakesPart (old new : Option (List ℕ)) (before after : List ℕ) (wanted : ℕ) : Type 0 where
+pub record TakesPart (old new : Input) (before after : List ℕ) (wanted : ℕ) : Type 0 where
   pub part : List ℕ
   pub some : 0 < length part
   pub few : length part ≤ wanted
-  pub taken : Consumes old new part
+  pub taken : Gives old new part
   pub held : after ≡ before ++ part
 
 -- or none: the input is at its end, the device failed, or there is no memory for those that were
 -- taken
-abbrev pub TakesNoPart : Option (List ℕ) → Option (List ℕ) → FrameFault → Type 0
-TakesNoPart old new fault.Unfinished = Consumes old new [] × IsAtEnd new
-TakesNoPart old new fault.Device = Consumes old new []
-TakesNoPart old new fault.Interrupted = Consumes old new []
-TakesNoPart old new fault.NoMemory = (part : List ℕ) × Consumes old new part
+abbrev pub TakesNoPart : Input → Input → FrameFault → Type 0
+TakesNoPart old new fault.Unfinished = Gives old new [] × IsAtEnd new.left
+TakesNoPart old new fault.Device = Gives old new []
+TakesNoPart old new fault.Interrupted = Gives old new []
+TakesNoPart old new fault.NoMemory = (part : List ℕ) × Gives old new part
 TakesNoPart old new other = ⊥

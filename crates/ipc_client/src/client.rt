@@ -1,19 +1,21 @@
 //! A client of the server.
-ghost use Rattle.std.specs.Prelude.{◌≡◌, Bool, true, false, Err, OnOk, OnErr, IfOk, IfErr, ◌⊎◌};
+ghost use Rattle.std.specs.Prelude.{◌≡◌, Bool, true, Err, OnOk, OnErr, IfOk, IfErr};
 ghost use Rattle.ipc_frame.specs.declared.frame.Frame.{Frame as AnyFrame};
-ghost use Rattle.ipc_client.specs.Asking.{Answers, Exchanges, Fails, FailsToRead, FailsToSend, FailsBye, SaysBye};
+ghost use Rattle.ipc_base.specs.Ports.{input_of};
+ghost use Rattle.ipc_client.specs.Asking.{Answers, Fails, FailsBye, SaysBye};
 ghost use Rattle.ipc_client.specs.Asking.{answer_frame, answers_call, answers_exchange, error_at};
 ghost use Rattle.ipc_client.specs.Asking.{tells_so, version_after, greeting_frame, greets, registers_frame};
+ghost use Rattle.ipc_client.specs.ClientParts.{client_over};
+ghost use Rattle.ipc_client.specs.Wires.{HasCarried};
 ghost use Rattle.ipc_frame.specs.declared.version.WireVersion.TheVariants.{One};
 
 mod calls;
 
 use crate::answer::{Answer, Greeting, Registers};
 use crate::error::ClientError;
-use crate::reading::read_frame;
-use crate::writing::write_frame;
+use crate::wire::Wire;
 use ipc_base::{PortRead, PortWrite};
-use ipc_frame::{Frame, FrameFault, IpcFrame, Side, WireVersion};
+use ipc_frame::{Frame, IpcFrame, WireVersion};
 use ipc_words::{Control, ThreadId};
 use std::alloc::Global;
 use std::marker::Model;
@@ -26,10 +28,7 @@ use std::marker::Model;
 #[derive(Drop)]
 pub struct Client<R: PortRead, W: PortWrite> {
     alloc: Global,
-    reader: R,
-    writer: W,
-    version: WireVersion,
-    is_closed: bool,
+    wire: Wire<R, W>,
 }
 
 impl<R: PortRead, W: PortWrite> Model for Client<R, W> {
@@ -37,68 +36,46 @@ impl<R: PortRead, W: PortWrite> Model for Client<R, W> {
 
     ghost Value = { ClientParts };
 
-    ghost view = { λ client. record {
-      remaining = R.remaining client.reader;
-      written = W.written client.writer;
-      read_failures = R.failures client.reader;
-      write_failures = W.failures client.writer;
-      version = client.version;
-      is_closed = client.is_closed;
-    } };
+    ghost view = { λ client. client.wire };
 }
 
 impl<R: PortRead, W: PortWrite> Client<R, W> {
     /// A client of a connection on which nothing was said yet.
     pub fn new(alloc: Global, reader: R, writer: W) -> Client<R, W>
-        ensures { result ≡ record {
-          remaining = R.remaining reader;
-          written = W.written writer;
-          read_failures = R.failures reader;
-          write_failures = W.failures writer;
-          version = One;
-          is_closed = false;
-        } }
+        ensures { result ≡ client_over (input_of (R.came reader) (R.remaining reader))
+            (W.written writer) (R.failures reader) (W.failures writer) }
     {
         Client {
             alloc,
-            reader,
-            writer,
-            version: WireVersion::One,
-            is_closed: false,
+            wire: Wire::new(reader, writer),
         }
+    }
+
+    /// Its ports, with all that went over them, and nothing more. Whatever was called, what went
+    /// out are the frames that it sent, and what came those that answered them, in order, each
+    /// once; the last one of a closed client may have gone out in part, or have no answer.
+    pub fn into_ports(self) -> (R, W)
+        ensures input { input_of (R.came result.0) (R.remaining result.0) ≡ self.input }
+        ensures written { W.written result.1 ≡ self.written }
+        ensures carried { HasCarried self }
+    {
+        let Client { wire, .. } = self;
+        wire.into_ports()
     }
 
     // Sends a frame, and reads the next one.
-    fn exchange(&mut self, frame: Frame) -> Result<Frame, FrameFault>
-        requires { self.old.is_closed ≡ false }
-        ensures ok { IfOk result (λ answered. Exchanges self.old self.new frame answered) }
-        ensures err { IfErr result (λ fault. FailsToSend self.old self.new frame fault
-            ⊎ FailsToRead self.old self.new frame fault) }
-        ensures open { self.new.is_closed ≡ false }
-        ensures version { self.new.version ≡ self.old.version }
-    {
-        match write_frame(&mut self.writer, frame) {
-            Ok(()) => read_frame(self.alloc, Side::Client, &mut self.reader),
-            Err(fault) => Err(fault),
-        }
-    }
-
-    // The same, of a client that may be closed; closes it at a fault.
     fn ask(&mut self, frame: Frame) -> Result<Frame, ClientError>
         ensures ok { IfOk result (λ answered. Answers self.old self.new frame answered) }
         ensures err { IfErr result (λ error. (is_answer : AnyFrame → Bool)
             → Fails is_answer self.old self.new frame error) }
         ensures version { self.new.version ≡ self.old.version }
     {
-        if self.is_closed {
+        if self.wire.is_closed() {
             return Err(ClientError::Closed);
         }
-        match self.exchange(frame) {
+        match self.wire.exchange(self.alloc, frame) {
             Ok(answered) => Ok(answered),
-            Err(fault) => {
-                self.is_closed = true;
-                Err(ClientError::Frame(fault))
-            }
+            Err(fault) => Err(ClientError::Frame(fault)),
         }
     }
 
@@ -107,7 +84,7 @@ impl<R: PortRead, W: PortWrite> Client<R, W> {
         ensures error { result ≡ error_at frame }
         ensures closed { self.new ≡ record self.old { is_closed = true } }
     {
-        self.is_closed = true;
+        self.wire.close();
         match frame {
             Frame::Fault(class, number) => ClientError::Fault { class, number },
             _ => ClientError::Unexpected,
@@ -118,7 +95,7 @@ impl<R: PortRead, W: PortWrite> Client<R, W> {
     fn tells(&self, told: bool) -> bool
         ensures { result ≡ tells_so self.now.version told }
     {
-        match self.version {
+        match self.wire.version() {
             WireVersion::One => !told,
             WireVersion::Two => told,
         }
@@ -172,7 +149,7 @@ impl<R: PortRead, W: PortWrite> Client<R, W> {
         };
         match answered {
             Frame::Welcome(id) => {
-                self.version = version;
+                self.wire.set_version(version);
                 Ok(Greeting::Welcome(id))
             }
             Frame::Refused(number) => Ok(Greeting::Refused(number)),
@@ -267,11 +244,10 @@ impl<R: PortRead, W: PortWrite> Client<R, W> {
         ensures closed { self.old.is_closed ≡ true → (result ≡ Err ClientError.Closed)
             × (self.new ≡ self.old) }
     {
-        if self.is_closed {
+        if self.wire.is_closed() {
             return Err(ClientError::Closed);
         }
-        self.is_closed = true;
-        match write_frame(&mut self.writer, Frame::Bye) {
+        match self.wire.say_bye() {
             Ok(()) => Ok(()),
             Err(fault) => Err(ClientError::Frame(fault)),
         }

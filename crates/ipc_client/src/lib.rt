@@ -13,7 +13,9 @@ mod message_fault;
 mod patient;
 mod reading;
 mod received;
+mod start;
 mod timeout;
+mod wire;
 mod writing;
 
 pub use answer::{Answer, Failure, Greeting, Registers};
@@ -25,5 +27,6 @@ pub use message_fault::{BufferFault, MessageFault};
 pub use patient::{PATIENCE, PatientStream, Untold, Waiter, is_late};
 pub use reading::read_frame;
 pub use received::Received;
+pub use start::Start;
 pub use timeout::Timeout;
 pub use writing::write_frame;

@@ -1,5 +1,6 @@
 //! A frame from a port.
 ghost use Rattle.std.specs.Prelude.{◌≡◌, ◌≢◌, ◌<◌, ℕ, OnOk, IsOk, IfOk, IfErr};
+ghost use Rattle.ipc_base.specs.Ports.{input_of};
 ghost use Rattle.ipc_frame.specs.Numbers.{IsBytes};
 ghost use Rattle.ipc_frame.specs.Reading.{Tells, Whole, reading};
 ghost use Rattle.ipc_client.specs.Devices.{IsDeviceFault};
@@ -24,10 +25,11 @@ fn read_part<M: Memory, P: PortRead>(
     held: &mut Vec<u8>,
 ) -> Result<(), FrameFault>
     requires some { 0 < wanted }
-    ensures ok { OnOk result (TakesPart (P.remaining port.old) (P.remaining port.new) held.old.items
-        held.new.items wanted) }
-    ensures err { IfErr result (λ fault. TakesNoPart (P.remaining port.old)
-        (P.remaining port.new) fault) }
+    ensures ok { OnOk result (TakesPart (input_of (P.came port.old) (P.remaining port.old))
+        (input_of (P.came port.new) (P.remaining port.new)) held.old.items held.new.items wanted) }
+    ensures err { IfErr result (λ fault.
+        TakesNoPart (input_of (P.came port.old) (P.remaining port.old))
+        (input_of (P.came port.new) (P.remaining port.new)) fault) }
     ensures failed { IfErr result (λ fault. IsDeviceFault fault
         → P.failures port.old < P.failures port.new) }
     ensures kept { OnOk result (P.failures port.new ≡ P.failures port.old) }
@@ -60,10 +62,12 @@ pub fn read_frame<M: Memory, P: PortRead>(
     side: Side,
     port: &mut P,
 ) -> Result<Frame, FrameFault>
-    ensures ok { IfOk result (λ frame. TakesFrame side (P.remaining port.old)
-        (P.remaining port.new) frame) }
-    ensures err { IfErr result (λ fault. TakesNoFrame side (P.remaining port.old)
-        (P.remaining port.new) fault) }
+    ensures ok { IfOk result (λ frame.
+        TakesFrame side (input_of (P.came port.old) (P.remaining port.old))
+        (input_of (P.came port.new) (P.remaining port.new)) frame) }
+    ensures err { IfErr result (λ fault.
+        TakesNoFrame side (input_of (P.came port.old) (P.remaining port.old))
+        (input_of (P.came port.new) (P.remaining port.new)) fault) }
     ensures failed { IfErr result (λ fault. IsDeviceFault fault
         → P.failures port.old < P.failures port.new) }
     ensures kept { OnOk result (P.failures port.new ≡ P.failures port.old) }

@@ -1,5 +1,5 @@
-//! What `l4d` needs of the system: the port of a socket, a clock, limits, signals, the connections
-//! that are there, whom to tell of them, and why something fails.
+//! What programs need of the system: ports that note what it took and gave, a clock, limits,
+//! signals, the connections that are there, whom to tell of them, and why something fails.
 #![tactic(auto)]
 
 mod admission;
@@ -13,6 +13,7 @@ mod inlet;
 mod limit;
 mod notice;
 mod noting;
+mod noting_ports;
 mod obstacle;
 mod ready;
 mod signals;
@@ -28,6 +29,7 @@ pub use guest::is_overdue;
 pub use guests::Guests;
 pub use limit::{SPARE, descriptors, room};
 pub use notice::{Notice, class_letter};
+pub use noting_ports::{NotingReader, NotingWriter};
 pub use obstacle::{Obstacle, obstacle_at};
 pub use ready::Readiness;
 pub use signals::{have_come, may_be_blocked};

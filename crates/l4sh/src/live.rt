@@ -1,8 +1,10 @@
-ghost use Rattle.std.specs.Prelude.{◌≡◌, ◌+◌, ◌<◌};
+ghost use Rattle.std.specs.Prelude.{◌≡◌, ◌+◌, ◌<◌, []};
+ghost use Rattle.l4sh.specs.Talking.{EndsOver};
 
 use crate::asking::connect_reason;
-use ipc_base::{Failures, PortRead, PortWrite, ReadPort, WritePort};
+use ipc_base::{Failures, Past, PortRead, PortWrite, ReadPort, WritePort};
 use ipc_client::{Client, PATIENCE, PatientStream, Waiter};
+use ipc_host::{NotingReader, NotingWriter};
 use l4sh_options::TalkOptions;
 use l4sh_talk::{Ending, talk_to};
 use std::alloc::{AllocError, Global};
@@ -111,7 +113,7 @@ fn talk_along<N: Eprint, R: PortRead, W: PortWrite>(
     let (reads, writes) = (Blank::new(1), Blank::new(1));
     let is_silent = AtomicBool::new(false);
     let from_server = PatientStream::new(stream, &is_silent, Typist { rt, path });
-    let ending = talk_over::<Brand, Brand, _, _, _>(
+    let spoken = talk_over::<Brand, Brand, _, _, _>(
         alloc,
         from_server,
         stream,
@@ -127,6 +129,7 @@ fn talk_along<N: Eprint, R: PortRead, W: PortWrite>(
             reason: silent_reason(alloc, path).ok(),
         };
     }
+    let Spoken { ending, .. } = spoken;
     let reason = ending.reason(alloc).unwrap_or(None);
     Talked { ending, reason }
 }
@@ -144,6 +147,14 @@ fn path_of(alloc: Global, options: &TalkOptions<'_>) -> Result<String, AllocErro
     format!(in alloc; "{dir}/space{space}")
 }
 
+// How a talk ended, and the bytes that the system says it took and gave for it.
+#[derive(Drop)]
+struct Spoken {
+    ending: Ending,
+    sent: Past<u8>,
+    came: Past<u8>,
+}
+
 // Talks over a socket, by what is read of it and by itself. The counts of its failures begin as
 // blanks.
 fn talk_over<I: Ledger, O: Ledger, T: Waiter + Drop, R: PortRead, W: PortWrite>(
@@ -155,17 +166,45 @@ fn talk_over<I: Ledger, O: Ledger, T: Waiter + Drop, R: PortRead, W: PortWrite>(
     writer: &mut W,
     reads: Blank,
     writes: Blank,
-) -> Ending
+) -> Spoken
     requires reads_name { reads.name ≡ I.name }
     requires reads_parts { (reads.parts ≡ I.parts) × (0 < reads.parts) }
     requires writes_name { writes.name ≡ O.name }
     requires writes_parts { (writes.parts ≡ O.parts) × (0 < writes.parts) }
-    ensures { result ≡ Ending.DeviceFailed
+    ensures talks { EndsOver number (R.remaining reader.old) (W.written writer.old)
+        result.ending result.sent result.came }
+    ensures device { result.ending ≡ Ending.DeviceFailed
         → R.failures reader.old + W.failures writer.old
         < R.failures reader.new + W.failures writer.new }
 {
-    let from_server = ReadPort::new(from_server, Failures::<I>::new(reads));
-    let to_server = WritePort::new(stream, Failures::<O>::new(writes));
+    let from_server = NotingReader::new(ReadPort::new(from_server, Failures::<I>::new(reads)));
+    let to_server = NotingWriter::new(WritePort::new(stream, Failures::<O>::new(writes)));
+    talk_noted(alloc, number, from_server, to_server, reader, writer)
+}
+
+// The same over ports that note what they move, and have moved nothing.
+fn talk_noted<I: PortRead + Drop, O: PortWrite + Drop, R: PortRead, W: PortWrite>(
+    alloc: Global,
+    number: u16,
+    from_server: NotingReader<I>,
+    to_server: NotingWriter<O>,
+    reader: &mut R,
+    writer: &mut W,
+) -> Spoken
+    requires unread { from_server.came ≡ [] }
+    requires unwritten { to_server.taken ≡ [] }
+    ensures talks { EndsOver number (R.remaining reader.old) (W.written writer.old)
+        result.ending result.sent result.came }
+    ensures device { result.ending ≡ Ending.DeviceFailed
+        → R.failures reader.old + W.failures writer.old
+        < R.failures reader.new + W.failures writer.new }
+{
     let mut client = Client::new(alloc, from_server, to_server);
-    talk_to(alloc, number, &mut client, reader, writer)
+    let ending = talk_to(alloc, number, &mut client, reader, writer);
+    let (from_server, to_server) = client.into_ports();
+    Spoken {
+        ending,
+        sent: to_server.into_taken(),
+        came: from_server.into_came(),
+    }
 }

@@ -2,7 +2,8 @@
 //! before it, and a sleeper.
 #![tactic(auto)]
 
-ghost use Rattle.std.specs.Prelude.{◌≡◌, ◌<◌};
+ghost use Rattle.std.specs.Prelude.{◌≡◌, ◌<◌, [], ℕ, OnOk};
+ghost use Rattle.l4x.specs.Sleeping.{Sleeps, SleepsOver, SleepsThrough};
 
 mod calling;
 mod finding;
@@ -20,8 +21,9 @@ mod table;
 mod trouble;
 
 use calling::{Search, Server};
-use ipc_base::{Failures, PortRead, PortWrite, ReadPort, WritePort};
+use ipc_base::{Failures, Past, PortRead, PortWrite, ReadPort, WritePort};
 use ipc_client::{Client, PATIENCE, PatientStream, Waiter};
+use ipc_host::{NotingReader, NotingWriter};
 use ipc_words::ThreadId;
 use mistake::Mistake;
 use registration::Registration;
@@ -95,7 +97,8 @@ fn obey<R: Net + Wait + Clock + Print + Eprint>(
     let (reads, writes) = (Blank::new(1), Blank::new(1));
     let played = start::<Brand, Brand, _>(rt, alloc, &stream, task, reads, writes);
     drop(stream);
-    played
+    let Played { end, .. } = played;
+    end
 }
 
 /// Connects to the first space of a server.
@@ -135,8 +138,16 @@ impl<R: Eprint> Waiter for Player<'_, R> {
     }
 }
 
+/// What a role came to, and the bytes that the system says it took and gave for it.
+#[derive(Drop)]
+struct Played {
+    end: Result<(), Trouble>,
+    sent: Past<u8>,
+    came: Past<u8>,
+}
+
 /// Plays a role over a connection. Each count of failures begins as a blank. A server that does not
-/// say WELCOME in its time is silent.
+/// say WELCOME in its time is silent. A sleeper that ends well has slept.
 fn start<L: Ledger, M: Ledger, R: Wait + Clock + Print + Eprint>(
     rt: &R,
     alloc: Global,
@@ -144,32 +155,59 @@ fn start<L: Ledger, M: Ledger, R: Wait + Clock + Print + Eprint>(
     task: Task<'_>,
     reads: Blank,
     writes: Blank,
-) -> Result<(), Trouble>
+) -> Played
     requires reads_name { reads.name ≡ L.name }
     requires reads_parts { (reads.parts ≡ L.parts) × (0 < reads.parts) }
     requires writes_name { writes.name ≡ M.name }
     requires writes_parts { (writes.parts ≡ M.parts) × (0 < writes.parts) }
+    ensures sleeps { (micros : ℕ) → task.entry.role ≡ Role.Sleep micros
+        → OnOk result.end (SleepsOver result.sent result.came micros) }
 {
     let is_silent = AtomicBool::new(false);
     let from_server = PatientStream::new(stream, &is_silent, Player { rt, dir: task.dir });
-    let reader = ReadPort::new(from_server, Failures::<L>::new(reads));
-    let writer = WritePort::new(stream, Failures::<M>::new(writes));
-    let mut client = Client::new(alloc, reader, writer);
-    let played = play(rt, alloc, &mut client, task);
-    drop(client);
+    let reader = NotingReader::new(ReadPort::new(from_server, Failures::<L>::new(reads)));
+    let writer = NotingWriter::new(WritePort::new(stream, Failures::<M>::new(writes)));
+    let mut played = play_noted(rt, alloc, reader, writer, task);
     if is_silent.load(Ordering::SeqCst) {
-        return Err(Trouble::Silent);
+        played.end = Err(Trouble::Silent);
     }
     played
 }
 
+/// The same over ports that note what they move, and have moved nothing.
+fn play_noted<I: PortRead + Drop, O: PortWrite + Drop, R: Wait + Clock + Print + Eprint>(
+    rt: &R,
+    alloc: Global,
+    reader: NotingReader<I>,
+    writer: NotingWriter<O>,
+    task: Task<'_>,
+) -> Played
+    requires unread { reader.came ≡ [] }
+    requires unwritten { writer.taken ≡ [] }
+    ensures sleeps { (micros : ℕ) → task.entry.role ≡ Role.Sleep micros
+        → OnOk result.end (SleepsOver result.sent result.came micros) }
+{
+    let mut client = Client::new(alloc, reader, writer);
+    let end = play(rt, alloc, &mut client, task);
+    let (reader, writer) = client.into_ports();
+    Played {
+        end,
+        sent: writer.into_taken(),
+        came: reader.into_came(),
+    }
+}
+
 /// Says HELLO as the thread of the role, plays it, and says BYE.
+#[tactic(auto, using(crate::proofs::SleepLemmas::slept_through))]
 fn play<I: PortRead, O: PortWrite, R: Wait + Clock + Print + Eprint>(
     rt: &R,
     alloc: Global,
     client: &mut Client<I, O>,
     task: Task<'_>,
-) -> Result<(), Trouble> {
+) -> Result<(), Trouble>
+    ensures sleeps { (micros : ℕ) → task.entry.role ≡ Role.Sleep micros
+        → OnOk result (SleepsThrough client.old client.new micros) }
+{
     let own = messages::greet(client, task.role.number())?;
     perform(rt, alloc, client, own, task)?;
     client.bye()?;
@@ -183,7 +221,10 @@ fn perform<I: PortRead, O: PortWrite, R: Wait + Clock + Print + Eprint>(
     client: &mut Client<I, O>,
     own: ThreadId,
     task: Task<'_>,
-) -> Result<(), Trouble> {
+) -> Result<(), Trouble>
+    ensures sleeps { (micros : ℕ) → task.entry.role ≡ Role.Sleep micros
+        → OnOk result (Sleeps client.old client.new own micros) }
+{
     let search = task.search;
     match task.role {
         Role::KeyValue => serve_words(rt, alloc, client, search),

@@ -1,8 +1,14 @@
 //! What is sent, and what comes back from the server.
+ghost use Rattle.std.specs.Prelude.{◌≡◌, IfOk};
+ghost use Rattle.ipc_client.specs.Asking.{Answers};
+ghost use Rattle.l4x.specs.Sleeping.{failed_code};
+ghost use Rattle.ipc_frame.specs.declared.version.WireVersion.TheVariants.{One};
+
 use crate::table::MAX_NAME_BYTES;
 use crate::trouble::Trouble;
 use ipc_base::{PortRead, PortWrite};
 use ipc_client::{Answer, Buffers, Client, Failure, Greeting, Message, Timeout};
+use ipc_frame::Frame;
 use ipc_items::StringList;
 use ipc_words::ThreadId;
 use std::alloc::Global;
@@ -22,7 +28,10 @@ pub struct Received {
 pub fn greet<I: PortRead, O: PortWrite>(
     client: &mut Client<I, O>,
     number: u16,
-) -> Result<ThreadId, Trouble> {
+) -> Result<ThreadId, Trouble>
+    ensures { IfOk result (λ thread. Answers client.old client.new (Frame.Hello number One)
+        (Frame.Welcome thread)) }
+{
     match client.hello(number)? {
         Greeting::Welcome(thread) => Ok(thread),
         Greeting::Refused(number) => Err(Trouble::Refused(number)),
@@ -52,7 +61,9 @@ pub fn message_of(answer: Answer) -> Result<Result<Received, u64>, Trouble> {
 }
 
 /// The ErrorCode of a call that failed.
-pub fn code_of(answer: &Answer) -> Option<u64> {
+pub fn code_of(answer: &Answer) -> Option<u64>
+    ensures { result ≡ failed_code answer.now }
+{
     match answer {
         Answer::Outcome(outcome) if outcome.tag().has_failed() => Some(outcome.error().to_word()),
         _ => None,

@@ -1,4 +1,7 @@
 //! What a process is in these examples.
+ghost use Rattle.std.specs.Prelude.{◌≡◌, ℕ};
+ghost use Rattle.l4x.specs.Sleeping.{sleeper_number};
+
 use crate::calling::{Search, Server};
 use crate::naming::NAMES_NUMBER;
 use crate::table::is_name;
@@ -144,7 +147,9 @@ impl<'a> Role<'a> {
     }
 
     /// The thread number that it asks for.
-    pub fn number(self) -> u16 {
+    pub fn number(self) -> u16
+        ensures sleeper { (micros : ℕ) → self.entry ≡ Role.Sleep micros → result ≡ sleeper_number }
+    {
         match self {
             Role::KeyValue => 1,
             Role::Gateway => 2,

@@ -1,54 +1,46 @@
 //! A thread that sleeps: a closed receive from itself waits until its timeout.
-use crate::messages::message_of;
+ghost use Rattle.std.specs.Prelude.{◌≡◌, OnOk};
+ghost use Rattle.l4x.specs.Sleeping.{Sleeps, timed_out};
+
+use crate::messages::code_of;
 use crate::trouble::Trouble;
 use ipc_base::{PortRead, PortWrite};
-use ipc_client::{Buffers, Client, Timeout};
-use ipc_words::{Period, ThreadId};
+use ipc_client::{Buffers, Client, Failure, Timeout};
+use ipc_words::ThreadId;
 use std::alloc::Global;
 
 /// The ErrorCode of a receive phase that ended by its timeout.
 const TIMEOUT: u64 = 0x3;
 
-/// The greatest mantissa of a period.
-const MOST: u64 = 0x3ff;
-
-/// The longest period.
-const LONGEST: u16 = 0x7fff;
-
 /// Sleeps for so many microseconds, or a little more: the shortest period that is not shorter.
+#[tactic(auto, using(crate::proofs::SleepLemmas::slept_to_message, crate::proofs::SleepLemmas::slept_in_time))]
 pub fn sleep<I: PortRead, O: PortWrite>(
     alloc: Global,
     client: &mut Client<I, O>,
     own: ThreadId,
     micros: u64,
-) -> Result<(), Trouble> {
-    let answer = client.receive(own, timeout_of(micros), Buffers::none(alloc))?;
-    match message_of(answer)? {
-        Err(TIMEOUT) | Ok(_) => Ok(()),
-        Err(code) => Err(Trouble::Failed(code)),
-    }
-}
-
-/// The timeout of so many microseconds.
-fn timeout_of(micros: u64) -> Timeout {
-    match Period::from_word(period(micros)) {
-        Some(period) => Timeout::of(period),
-        None => Timeout::never(),
-    }
-}
-
-/// The word of the shortest period that is not shorter than so many microseconds; the longest for
-/// more than that. Zero time for none.
-fn period(micros: u64) -> u16 {
-    if micros == 0 {
-        return Period::ZERO.to_word();
-    }
-    let mut mantissa = micros;
-    for exponent in 0..32u16 {
-        if mantissa <= MOST {
-            return exponent * 1024 + mantissa as u16;
+) -> Result<(), Trouble>
+    ensures { OnOk result (Sleeps client.old client.new own micros) }
+{
+    let answer = client.receive(own, Timeout::micros(micros), Buffers::none(alloc))?;
+    let code = code_of(&answer).unwrap_or(0);
+    match answer.message() {
+        Ok(message) => {
+            drop(message);
+            Ok(())
         }
-        mantissa = mantissa / 2 + mantissa % 2;
+        Err(Failure::Failed(_)) => over(code),
+        Err(Failure::Refused(number)) => Err(Trouble::Refused(number)),
     }
-    LONGEST
+}
+
+/// Whether the sleep is over by its timeout.
+fn over(code: u64) -> Result<(), Trouble>
+    ensures { OnOk result (code ≡ timed_out) }
+{
+    if code == TIMEOUT {
+        Ok(())
+    } else {
+        Err(Trouble::Failed(code))
+    }
 }

@@ -64,13 +64,13 @@ impl<R: PortRead, W: PortWrite> Client<R, W> {
         ensures closed { self.old.is_closed ≡ true → (result ≡ Err ClientError.Closed)
             × (self.new ≡ self.old) }
     {
-        if self.is_closed {
+        if self.wire.is_closed() {
             return Err(ClientError::Closed);
         }
         match frame_of(to, from, timeouts, message, buffers) {
             Ok(frame) => self.ipc(frame),
             Err(fault) => {
-                self.is_closed = true;
+                self.wire.close();
                 Err(ClientError::Frame(fault))
             }
         }

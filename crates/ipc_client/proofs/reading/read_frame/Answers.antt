@@ -1,6 +1,6 @@
 use Rattle.std.proofs.Common.{◌≡◌, ◌≢◌, ◌<◌, ap, refl, sym, subst, ◌∙◌, ◌++◌, length, arith}
-use Rattle.std.specs.Io.KnownBytes.{Consumes}
-use Rattle.std.proofs.KnownBytes.{Consumes-nil, Consumes-trans}
+use Rattle.ipc_base.proofs.Giving.{gives_none, gives_then}
+use Rattle.ipc_base.specs.Ports.{Gives, Input, input_of}
 use Rattle.ipc_frame.specs.Reading.{Short, Bad, reading}
 use Rattle.ipc_frame.specs.declared.judging.Judgement.TheVariants as judged
 use Rattle.ipc_frame.specs.declared.fault.FrameFault.TheVariants as fault
@@ -17,10 +17,9 @@ use Rattle.ipc_client.proofs.reading.read_frame.Goals as goal
 pub parts-init : goal.parts-init
 parts-init g c =
     let none = c.in-Ok.ensures.items in
+    let input = input_of (g.P.PortRead.came c.args.port.now) (g.P.PortRead.remaining c.args.port.now) in
     record {
-      taken = subst (Consumes (g.P.PortRead.remaining c.args.port.now)
-          (g.P.PortRead.remaining c.args.port.now)) (sym none)
-          (Consumes-nil (g.P.PortRead.remaining c.args.port.now));
+      taken = subst (Gives input input) (sym none) (gives_none input);
       tight = tight_start c.args.side c.in-Ok.held.items (ap length none);
       kept = refl;
     }
@@ -45,10 +44,10 @@ parts-preserved g c =
     let takes = c.in-Ok-read_part.ensures.ok in
     let roomy = c.reserve.ensures.items in
     let held = takes.held ∙ ap (λ xs. xs ++ takes.part) roomy in
-    let all = Consumes-trans _ _ _ c.parts.held.items takes.part c.parts.invariant.taken takes.taken in
+    let all = gives_then _ _ _ c.parts.held.items takes.part c.parts.invariant.taken takes.taken in
     record {
-      taken = subst (Consumes (g.P.PortRead.remaining c.args.port.now)
-          (g.P.PortRead.remaining c.read_part.new.port)) (sym held) all;
+      taken = subst (Gives (input_of (g.P.PortRead.came c.args.port.now) (g.P.PortRead.remaining c.args.port.now))
+          (input_of (g.P.PortRead.came c.read_part.new.port) (g.P.PortRead.remaining c.read_part.new.port))) (sym held) all;
       tight = tight_more c.args.side c.parts.held.items c.read_part.new.held.items takes.part
           c.in-Short.wanted held takes.few short_here;
       kept = c.in-Ok-read_part.ensures.kept ∙ c.parts.invariant.kept;
@@ -78,11 +77,11 @@ returns-in-Bad g c =
 pub returns-in-Whole : goal.returns-in-Whole
 returns-in-Whole g c =
     let side = c.args.side in
-    let old = g.P.PortRead.remaining c.args.port.now in
-    let new = g.P.PortRead.remaining c.parts.port in
+    let old = input_of (g.P.PortRead.came c.args.port.now) (g.P.PortRead.remaining c.args.port.now) in
+    let new = input_of (g.P.PortRead.came c.parts.port) (g.P.PortRead.remaining c.parts.port) in
     let bytes = c.deref-in-Whole.result.now in
     let same = sym c.deref-in-Whole.ensures.value in
-    let taken : Consumes old new bytes = subst (Consumes old new) same c.parts.invariant.taken in
+    let taken : Gives old new bytes = subst (Gives old new) same c.parts.invariant.taken in
     let tight : IsTight side bytes = subst (IsTight side) same c.parts.invariant.tight in
     let result = c.whole_frame.result in
     record {

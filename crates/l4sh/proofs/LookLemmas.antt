@@ -7,7 +7,7 @@ use Rattle.ipc_shell.specs.Checking.{HasLines}
 use Rattle.l4sh_count.specs.Events.{events_in}
 use Rattle.l4sh_count.specs.Tallies.{IsTally}
 use Rattle.l4sh_count.specs.declared.tally.Tally.{Tally}
-use Rattle.l4sh_times.specs.Times.{TellsMoment}
+use Rattle.l4sh_state.specs.States.{TellsMoment}
 use Rattle.l4sh.specs.Looking.{ChartsTrace, EndsWithCounts, IsDrawnOf, IsPrinted, IsSaidOf, IsShown, IsSilent, LooksAt, Prints, PrintsOf, TellsCounts, shown_of, torn_end}
 use Rattle.l4sh.specs.declared.looking.Look.{Look}
 use Rattle.l4sh.specs.declared.exit.Exit.{Exit}

@@ -13,7 +13,7 @@ use Rattle.l4sh_count.specs.Events.{events_in}
 use Rattle.l4sh_count.specs.Tallies.{IsTally}
 use Rattle.l4sh_count.specs.Texts.{EndsWithAll}
 use Rattle.l4sh_count.specs.declared.tally.Tally.{Tally}
-use Rattle.l4sh_times.specs.Times.{TellsMoment}
+use Rattle.l4sh_state.specs.States.{TellsMoment}
 use Rattle.l4sh.specs.declared.exit.Exit.{Exit}
 use Rattle.l4sh.specs.declared.exit.Exit.TheVariants.{Done, BadLine, NoMemory, DeviceFailed, BadThreads, NoChart, UnknownVersion, IllegalLine, Torn}
 use Rattle.l4sh.specs.declared.looking.Look.{Look}

@@ -2,7 +2,7 @@
 ghost use Rattle.std.specs.Prelude.{◌≡◌, ◌≢◌, ◌+◌, ◌++◌, ◌<◌, ℕ, List, take, IfOk};
 ghost use Rattle.ipc_history.specs.declared.entry.Entry.{Entry};
 ghost use Rattle.std.specs.String.{string_bytes};
-ghost use Rattle.l4sh_times.specs.Times.{TellsMoment};
+ghost use Rattle.l4sh_state.specs.States.{TellsMoment};
 ghost use Rattle.l4sh.specs.Looking.{IsPrinted, IsSaidOf, IsSilent, LooksAt, Prints, PrintsOf};
 ghost use Rattle.l4sh.specs.declared.looking.Look.TheVariants.{StateAt};
 

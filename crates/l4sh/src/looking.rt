@@ -4,7 +4,7 @@ ghost use Rattle.l4sh_explain.specs.Answers.{IfAnswer, IfMistake};
 ghost use Rattle.std.specs.Io.KnownBytes.{Appends};
 ghost use Rattle.std.specs.String.{string_bytes};
 ghost use Rattle.ipc_trace.specs.Versions.{header_lines};
-ghost use Rattle.l4sh_times.specs.Times.{TellsMoment};
+ghost use Rattle.l4sh_state.specs.States.{TellsMoment};
 ghost use Rattle.l4sh.specs.Looking.{EndsWithCounts, IsPrinted, IsSaidOf, IsSilent, LooksAt, MayEnd, Prints, PrintsOf};
 ghost use Rattle.l4sh.specs.Looking.{shown_of, torn_end};
 ghost use Rattle.l4sh.specs.declared.looking.Look.TheVariants as look;

@@ -11,7 +11,3 @@ are_of_day (OfDay start) = true
 -- the text is the one line of a file FILE.began
 abbrev pub IsBegan : List ℕ → Type 0
 IsBegan text = (time : List ℕ) × (text ≡ (codes "began " ++ time) ++ 10 ∷ [])
-
--- the text of a state tells its moment first
-abbrev pub TellsMoment : List ℕ → Type 0
-TellsMoment text = (rest : List ℕ) × (text ≡ codes "moment " ++ rest)

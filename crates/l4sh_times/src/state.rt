@@ -1,7 +1,7 @@
 //! The text of a state, as `l4sh state` shows it.
 ghost use Rattle.std.specs.Prelude.{IfOk};
 ghost use Rattle.std.specs.String.{string_bytes};
-ghost use Rattle.l4sh_times.specs.Times.{TellsMoment};
+ghost use Rattle.l4sh_state.specs.States.{TellsMoment};
 
 use crate::times::Times;
 use std::alloc::{AllocError, Global};

@@ -26,6 +26,10 @@ pub record IsFaultLine (version : TraceVersion) (entries : List Entry) (number p
   pub before : Legal (take place entries)
   pub fault : Legal (take (place + 1) entries) → ⊥
 
+-- what may be said of entries, whose lines are of a version, by how a command ends
+abbrev pub Saying : Type 1
+Saying = TraceVersion → List Entry → Exit → Type 0
+
 -- what is said of entries: that all is well only of a legal history, and a line only where it is at
 -- fault
 abbrev pub IsSaidOf : TraceVersion → List Entry → Exit → Type 0
@@ -35,10 +39,41 @@ IsSaidOf version entries NoMemory = ⊤
 IsSaidOf version entries DeviceFailed = ⊤
 IsSaidOf version entries other = ⊥
 
--- what may be said of each legal history
-abbrev pub MayEnd : Exit → Type 0
-MayEnd exit = (version : TraceVersion) (entries : List Entry) → Legal entries
-    → IsSaidOf version entries exit
+-- this may be said of each legal history
+abbrev pub MayEnd : Saying → Exit → Type 0
+MayEnd IsSaid exit = (version : TraceVersion) (entries : List Entry) → Legal entries
+    → IsSaid version entries exit
+
+-- of the entries of the whole lines some are shown, of which this is said; and whether a torn line
+-- stands behind them
+abbrev pub SaysOfTrace : (List Entry → List Entry) → Saying → List ℕ → Bool → Exit → Type 0
+SaysOfTrace shown IsSaid bytes is_torn exit = (version : TraceVersion) × ((entries : List Entry)
+    × HasLines bytes version entries is_torn × IsSaid version (shown entries) exit)
+
+-- the last whole line before a torn one has this number, and what is shown is legal
+abbrev pub ShowsTorn : (List Entry → List Entry) → List ℕ → ℕ → Type 0
+ShowsTorn shown bytes number = (version : TraceVersion) × ((entries : List Entry)
+    × HasLines bytes version entries true × (number ≡ header_lines version + length entries)
+    × Legal (shown entries))
+
+-- how what was told of the whole lines ends where a torn line stands behind them
+abbrev pub torn_end : TraceVersion → List Entry → Exit → Exit
+torn_end version entries Done = Torn (header_lines version + length entries)
+torn_end version entries other = other
+
+-- how a command ends that shows such entries of these bytes, and says so of them
+abbrev pub EndsByBytes : (List Entry → List Entry) → Saying → List ℕ → Exit → Type 0
+EndsByBytes shown IsSaid bytes Done = SaysOfTrace shown IsSaid bytes false Done
+EndsByBytes shown IsSaid bytes (Torn number) = ShowsTorn shown bytes number
+EndsByBytes shown IsSaid bytes (NoChart fault) =
+    (is_torn : Bool) × SaysOfTrace shown IsSaid bytes is_torn (NoChart fault)
+EndsByBytes shown IsSaid bytes UnknownVersion = HasUnknownVersion bytes
+EndsByBytes shown IsSaid bytes (IllegalLine number place) =
+    (is_torn : Bool) × SaysOfTrace shown IsSaid bytes is_torn (IllegalLine number place)
+EndsByBytes shown IsSaid bytes (BadLine number) = HasBadLine bytes number
+EndsByBytes shown IsSaid bytes NoMemory = ⊤
+EndsByBytes shown IsSaid bytes DeviceFailed = ⊤
+EndsByBytes shown IsSaid bytes other = ⊥
 
 -- the entries of which something is told
 abbrev pub shown_of : Look → List Entry → List Entry
@@ -46,37 +81,9 @@ shown_of Script entries = entries
 shown_of (StateAt count) entries = take count entries
 shown_of (Counts is_json) entries = entries
 
--- the entries of the whole lines, of which this is said, and whether a torn line stands behind them
-abbrev pub SaysOfTrace : Look → List ℕ → Bool → Exit → Type 0
-SaysOfTrace look bytes is_torn exit = (version : TraceVersion) × ((entries : List Entry)
-    × HasLines bytes version entries is_torn × IsSaidOf version (shown_of look entries) exit)
-
--- the last whole line before a torn one has this number, and what is shown is legal
-abbrev pub ShowsTorn : Look → List ℕ → ℕ → Type 0
-ShowsTorn look bytes number = (version : TraceVersion) × ((entries : List Entry)
-    × HasLines bytes version entries true × (number ≡ header_lines version + length entries)
-    × Legal (shown_of look entries))
-
--- how what was told of the whole lines ends where a torn line stands behind them
-abbrev pub torn_end : TraceVersion → List Entry → Exit → Exit
-torn_end version entries Done = Torn (header_lines version + length entries)
-torn_end version entries other = other
-
--- how a look at these bytes ends
-abbrev pub LooksAtBytes : Look → List ℕ → Exit → Type 0
-LooksAtBytes look bytes Done = SaysOfTrace look bytes false Done
-LooksAtBytes look bytes (Torn number) = ShowsTorn look bytes number
-LooksAtBytes look bytes UnknownVersion = HasUnknownVersion bytes
-LooksAtBytes look bytes (IllegalLine number place) =
-    (is_torn : Bool) × SaysOfTrace look bytes is_torn (IllegalLine number place)
-LooksAtBytes look bytes (BadLine number) = HasBadLine bytes number
-LooksAtBytes look bytes NoMemory = ⊤
-LooksAtBytes look bytes DeviceFailed = ⊤
-LooksAtBytes look bytes other = ⊥
-
--- where the reader tells its bytes
+-- how a look ends, where the reader tells its bytes
 abbrev pub LooksAt : Look → Option (List ℕ) → Exit → Type 0
-LooksAt look bytes exit = IfSome bytes (λ bytes. LooksAtBytes look bytes exit)
+LooksAt look bytes exit = IfSome bytes (λ bytes. EndsByBytes (shown_of look) IsSaidOf bytes exit)
 
 -- counts in words end with the line of all that the entries add; of JSON nothing is said
 abbrev pub EndsWithCounts : Bool → Tally → List ℕ → Type 0
@@ -118,46 +125,16 @@ IsPrinted Done = ⊤
 IsPrinted (Torn number) = ⊤
 IsPrinted other = ⊥
 
--- what a chart's end says of the entries up to the last that it may show: it is drawn of a legal
--- history alone, and a line is named only where it is at fault
+-- what a chart's end says of the entries up to the last that it may show: that nothing is drawn of
+-- them only of a legal history, and else the same
 abbrev pub IsDrawnOf : TraceVersion → List Entry → Exit → Type 0
-IsDrawnOf version entries Done = Legal entries
 IsDrawnOf version entries (NoChart fault) = Legal entries
-IsDrawnOf version entries (IllegalLine number place) = IsFaultLine version entries number place
-IsDrawnOf version entries NoMemory = ⊤
-IsDrawnOf version entries DeviceFailed = ⊤
-IsDrawnOf version entries other = ⊥
-
--- how a chart of each legal history may end
-abbrev pub MayDraw : Exit → Type 0
-MayDraw exit = (version : TraceVersion) (entries : List Entry) → Legal entries
-    → IsDrawnOf version entries exit
-
--- the first entries of the whole lines, so many, of which this is said, and whether a torn line
--- stands behind them
-abbrev pub DrawsTrace : ℕ → List ℕ → Bool → Exit → Type 0
-DrawsTrace last bytes is_torn exit = (version : TraceVersion) × ((entries : List Entry)
-    × HasLines bytes version entries is_torn × IsDrawnOf version (take last entries) exit)
-
--- the last whole line before a torn one has this number, and what is drawn is legal
-abbrev pub DrawsTorn : ℕ → List ℕ → ℕ → Type 0
-DrawsTorn last bytes number = (version : TraceVersion) × ((entries : List Entry)
-    × HasLines bytes version entries true × (number ≡ header_lines version + length entries)
-    × Legal (take last entries))
+IsDrawnOf version entries exit = IsSaidOf version entries exit
 
 -- how a chart of these bytes ends that shows no entry behind the last
 abbrev pub ChartsBytes : ℕ → List ℕ → Exit → Type 0
-ChartsBytes last bytes Done = DrawsTrace last bytes false Done
-ChartsBytes last bytes (Torn number) = DrawsTorn last bytes number
-ChartsBytes last bytes (NoChart fault) = (is_torn : Bool) × DrawsTrace last bytes is_torn (NoChart fault)
-ChartsBytes last bytes UnknownVersion = HasUnknownVersion bytes
-ChartsBytes last bytes (IllegalLine number place) =
-    (is_torn : Bool) × DrawsTrace last bytes is_torn (IllegalLine number place)
-ChartsBytes last bytes (BadLine number) = HasBadLine bytes number
-ChartsBytes last bytes NoMemory = ⊤
-ChartsBytes last bytes DeviceFailed = ⊤
 ChartsBytes last bytes BadThreads = ⊤
-ChartsBytes last bytes other = ⊥
+ChartsBytes last bytes exit = EndsByBytes (take last) IsDrawnOf bytes exit
 
 -- where the reader tells its bytes
 abbrev pub ChartsTrace : ℕ → Option (List ℕ) → Exit → Type 0

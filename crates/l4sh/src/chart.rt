@@ -1,5 +1,5 @@
 ghost use Rattle.std.specs.Prelude.{◌≡◌, ◌≢◌, ◌+◌, ◌++◌, ◌<◌, take};
-ghost use Rattle.l4sh.specs.Looking.{ChartsTrace, IsDrawnOf, IsSilent, MayDraw};
+ghost use Rattle.l4sh.specs.Looking.{ChartsTrace, IsDrawnOf, IsSilent, MayEnd};
 
 use crate::exit::{ChartFault, Exit};
 use crate::judging::{Front, Noting};
@@ -188,7 +188,7 @@ fn print_legal<W: PortWrite>(
     times: Times,
     writer: &mut W,
 ) -> Exit
-    ensures ends { MayDraw result }
+    ensures ends { MayEnd IsDrawnOf result }
     ensures failed { result ≡ Exit.DeviceFailed → W.failures writer.old < W.failures writer.new }
     ensures silent { result ≢ Exit.Done → result ≢ Exit.DeviceFailed
         → W.written writer.new ≡ W.written writer.old }
@@ -221,7 +221,7 @@ fn print_scene<W: PortWrite>(
     times: Times,
     writer: &mut W,
 ) -> Exit
-    ensures ends { MayDraw result }
+    ensures ends { MayEnd IsDrawnOf result }
     ensures failed { result ≡ Exit.DeviceFailed → W.failures writer.old < W.failures writer.new }
     ensures silent { result ≢ Exit.Done → result ≢ Exit.DeviceFailed
         → W.written writer.new ≡ W.written writer.old }

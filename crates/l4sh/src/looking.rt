@@ -308,7 +308,7 @@ pub(crate) fn print<W: PortWrite>(text: Result<String, AllocError>, writer: &mut
     ensures lost { IfErr text (λ _. result ≡ Exit.NoMemory) }
     ensures whole { IfOk text (λ text. result ≡ Exit.Done
         → Appends (W.written writer.old) (W.written writer.new) (string_bytes text)) }
-    ensures ends { MayEnd result }
+    ensures ends { MayEnd IsSaidOf result }
     ensures failed { result ≡ Exit.DeviceFailed → W.failures writer.old < W.failures writer.new }
     ensures silent { result ≢ Exit.Done → result ≢ Exit.DeviceFailed
         → W.written writer.new ≡ W.written writer.old }

@@ -16,7 +16,6 @@ pub mod Replaying
 pub mod Kernels
 pub mod LineLemmas
 pub mod PieceLemmas
-pub mod PutLemmas
 pub mod RunLemmas
 pub mod CheckLemmas
 pub mod MigrateLemmas

@@ -1,16 +1,16 @@
 -- The text of a part, as it is written piece by piece.
-use Rattle.std.proofs.Common.{◌≡◌, ℕ, zero, suc, ◌+◌, ◌<◌, List, [], ◌∷◌, ◌++◌, codes, length, take, get_or, min, refl, sym, ap, ◌∙◌, arith, append_assoc, append-nil}
+use Rattle.std.proofs.Common.{◌≡◌, ℕ, zero, suc, ◌+◌, ◌<◌, List, [], ◌∷◌, ◌++◌, codes, length, take, drop, get_or, min, refl, sym, ap, ◌∙◌, arith, append_assoc, append-nil, take-append-drop}
 use Rattle.std.specs.Fmt.{decimal}
 use Rattle.std.proofs.lemmas.List.{length-take-le, map-append, take_more}
 use Rattle.std.proofs.lemmas.Grind.{flat_map-append}
 use Rattle.ipc_history.specs.declared.entry.Entry.{Entry}
 use Rattle.ipc_lines.specs.Lines.{entry_text}
+use Rattle.ipc_base.specs.Ports.{AppendsFront}
 use Rattle.ipc_compact.specs.Compact.{Base}
 use Rattle.std.proofs.Common.{Result, Ok, Err, OnOk, OnErr}
-use Rattle.std.proofs.KnownBytes.{Appends-nil}
-use Rattle.ipc_trace.specs.Putting.{PutsFront, PutsLine, TraceParts}
+use Rattle.ipc_trace.specs.Putting.{PutsLine, TraceParts}
 use Rattle.ipc_trace.specs.Traces.{ended, trace_text}
-use Rattle.ipc_trace.proofs.Puts.{front_behind, puts_more}
+use Rattle.ipc_trace.proofs.Puts.{begin_is_front, front_behind, puts_more}
 use Rattle.ipc_trace.specs.Lines.{calls_word, line_text, moment_word, takes_word}
 use Rattle.ipc_trace.specs.Parts.{base_lines, entry_lines, lines_text, number_line, number_lines, over_lines, part_text}
 use Rattle.ipc_trace.specs.PartPutting.{lines_behind}
@@ -117,18 +117,18 @@ base_written base counts numbers overs all is_counts is_numbers is_overs is_all 
     ∙ ap (λ (t : List ℕ). lines_text (top ++ (n ++ o)) ++ t) (sym (append-nil (ended (codes "kept")))) ∙ sym (text_append (base_lines base) (line.Kept ∷ []))
 
 -- what was put in part stands before what was not put
-pub front_before : (a b : TraceParts) (first rest : List ℕ) → PutsFront a b first → PutsFront a b (first ++ rest)
-front_before a b first rest (front, (back, is, appended)) = (front, (back ++ rest, ap (λ (t : List ℕ). t ++ rest) is ∙ append_assoc front back rest, appended))
+pub front_before : (a b : TraceParts) (first rest : List ℕ) → AppendsFront a.written b.written first → AppendsFront a.written b.written (first ++ rest)
+front_before a b first rest (n, within, appended) =
+    let front = take n first in
+    let back = drop n first in
+    begin_is_front a.written b.written (first ++ rest) front (back ++ rest)
+    (ap (λ (t : List ℕ). t ++ rest) (sym (take-append-drop n first)) ∙ append_assoc front back rest) appended
 
 -- and behind what was put whole
-pub errs_behind : {X E : Type 0} (a b c : TraceParts) (first lines : List ℕ) (result : Result X E) → PutsLine a b first → OnErr result (PutsFront b c lines) → OnErr result (PutsFront a c (first ++ lines))
+pub errs_behind : {X E : Type 0} (a b c : TraceParts) (first lines : List ℕ) (result : Result X E) → PutsLine a b first → OnErr result (AppendsFront b.written c.written lines) → OnErr result (AppendsFront a.written c.written (first ++ lines))
 errs_behind a b c first lines (Ok x) before front = tt
 errs_behind a b c first lines (Err e) before front = front_behind a b c first lines before front
 
 pub oks_behind : {X E : Type 0} (a b c : TraceParts) (first lines : List ℕ) (result : Result X E) → PutsLine a b first → OnOk result (PutsLine b c lines) → OnOk result (PutsLine a c (first ++ lines))
 oks_behind a b c first lines (Ok x) before more = puts_more a b c first lines before more
 oks_behind a b c first lines (Err e) before more = tt
-
--- nothing was put
-pub front_of_nothing : (a : TraceParts) (lines : List ℕ) → PutsFront a a lines
-front_of_nothing a lines = ([], (lines, refl, Appends-nil a.written))

@@ -1,5 +1,5 @@
 -- What putting a line leaves written.
-use Rattle.std.specs.Prelude.{◌≡◌, ◌≢◌, ℕ, ◌<◌, List, Bool, true, false, Option, Result, IsErrOf, ◌⊎◌, ◌++◌}
+use Rattle.std.specs.Prelude.{◌≡◌, ℕ, ◌<◌, List, Bool, true, false, Option, Result, IsErrOf, ◌⊎◌}
 use Rattle.std.specs.Io.KnownBytes.{Appends, Keeps}
 use Rattle.ipc_base.specs.Ports.{AppendsPart}
 use Rattle.ipc_trace.specs.declared.fault.PutFault.{PutFault}
@@ -26,11 +26,6 @@ pub record FailsInLine (old new : TraceParts) (line : List ℕ) : Type 0 where
   pub appended : AppendsPart old.written new.written line
   pub failed : old.failures < new.failures
   pub stopped : new.is_stopped ≡ true
-
--- a front of lines stands
-abbrev pub PutsFront : TraceParts → TraceParts → List ℕ → Type 0
-PutsFront old new lines =
-    (front : List ℕ) × ((back : List ℕ) × (lines ≡ front ++ back) × Appends old.written new.written front)
 
 -- what was written is handed on, and the trace goes on
 pub record HandsOn (old new : TraceParts) : Type 0 where

@@ -1,11 +1,12 @@
 //! A part that is written.
 ghost use Rattle.std.specs.Prelude.{◌≡◌, ◌≢◌, ◌<◌, ◌↔◌, true, false, Err, OnOk, OnErr};
-ghost use Rattle.ipc_trace.specs.Putting.{PutsFront, PutsLine};
-ghost use Rattle.ipc_trace.specs.Traces.{trace_text};
+ghost use Rattle.ipc_base.specs.Ports.{AppendsFront};
+ghost use Rattle.ipc_trace.specs.Putting.{PutsLine};
 ghost use Rattle.ipc_trace.specs.Parts.{part_text};
 ghost use Rattle.ipc_trace.specs.PartPutting.{lines_behind, section_text};
 
 use crate::base_text::BaseNumbers;
+use crate::whole::put_entries;
 use crate::{PutFault, TraceWriter};
 use ipc_base::PortWrite;
 use ipc_history::Entry;
@@ -28,7 +29,7 @@ pub fn put_part<P: PortWrite>(
     ensures ok { OnOk result (PutsLine trace.old trace.new
         (part_text (record { base = base.now; kept = kept.now; entries = entries.now }))) }
     ensures flushed { OnOk result (trace.new.is_flushed ≡ true) }
-    ensures front { OnErr result (PutsFront trace.old trace.new
+    ensures front { OnErr result (AppendsFront trace.old.written trace.new.written
         (part_text (record { base = base.now; kept = kept.now; entries = entries.now }))) }
     ensures device { result ≡ Err PutFault.DeviceFailed → trace.old.failures < trace.new.failures }
     ensures kept { result ≢ Err PutFault.DeviceFailed → trace.new.failures ≡ trace.old.failures }
@@ -51,7 +52,8 @@ fn put_lines<P: PortWrite>(
 ) -> Result<(), PutFault>
     ensures ok { OnOk result (PutsLine trace.old trace.new (lines_behind base.now kept.now entries.now)) }
     ensures flushed { OnOk result (trace.new.is_flushed ≡ true) }
-    ensures front { OnErr result (PutsFront trace.old trace.new (lines_behind base.now kept.now entries.now)) }
+    ensures front { OnErr result (AppendsFront trace.old.written trace.new.written
+        (lines_behind base.now kept.now entries.now)) }
     ensures device { result ≡ Err PutFault.DeviceFailed → trace.old.failures < trace.new.failures }
     ensures kept { result ≢ Err PutFault.DeviceFailed → trace.new.failures ≡ trace.old.failures }
 {
@@ -67,24 +69,11 @@ fn put_section<P: PortWrite>(
     entries: &[Entry],
 ) -> Result<(), PutFault>
     ensures ok { OnOk result (PutsLine trace.old trace.new (section_text text.now entries.now)) }
-    ensures front { OnErr result (PutsFront trace.old trace.new (section_text text.now entries.now)) }
+    ensures front { OnErr result (AppendsFront trace.old.written trace.new.written
+        (section_text text.now entries.now)) }
     ensures device { result ≡ Err PutFault.DeviceFailed → trace.old.failures < trace.new.failures }
     ensures kept { result ≢ Err PutFault.DeviceFailed → trace.new.failures ≡ trace.old.failures }
 {
     trace.put_text(text)?;
     put_entries(trace, entries)
-}
-
-// Writes the lines of entries.
-fn put_entries<P: PortWrite>(trace: &mut TraceWriter<P>, entries: &[Entry]) -> Result<(), PutFault>
-    requires going { trace.old.is_stopped ≡ false }
-    ensures ok { OnOk result (PutsLine trace.old trace.new (trace_text entries.now)) }
-    ensures front { OnErr result (PutsFront trace.old trace.new (trace_text entries.now)) }
-    ensures device { result ≡ Err PutFault.DeviceFailed → trace.old.failures < trace.new.failures }
-    ensures kept { result ≢ Err PutFault.DeviceFailed → trace.new.failures ≡ trace.old.failures }
-{
-    for entry in entries {
-        trace.put(entry)?;
-    }
-    Ok(())
 }

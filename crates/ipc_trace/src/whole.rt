@@ -1,6 +1,7 @@
 //! A trace that is written whole.
 ghost use Rattle.std.specs.Prelude.{◌≡◌, ◌≢◌, ◌<◌, ◌↔◌, true, false, Err, OnOk, OnErr};
-ghost use Rattle.ipc_trace.specs.Putting.{PutsLine, PutsFront};
+ghost use Rattle.ipc_base.specs.Ports.{AppendsFront};
+ghost use Rattle.ipc_trace.specs.Putting.{PutsLine};
 ghost use Rattle.ipc_trace.specs.Traces.{trace_text, versioned_text};
 ghost use Rattle.ipc_trace.specs.Versions.{newest};
 
@@ -22,7 +23,8 @@ pub fn put_trace<P: PortWrite>(
 ) -> Result<(), PutFault>
     ensures ok { OnOk result (PutsLine trace.old trace.new (versioned_text newest entries.now)) }
     ensures flushed { OnOk result (trace.new.is_flushed ≡ true) }
-    ensures front { OnErr result (PutsFront trace.old trace.new (versioned_text newest entries.now)) }
+    ensures front { OnErr result (AppendsFront trace.old.written trace.new.written
+        (versioned_text newest entries.now)) }
     ensures device { result ≡ Err PutFault.DeviceFailed → trace.old.failures < trace.new.failures }
     ensures kept { result ≢ Err PutFault.DeviceFailed → trace.new.failures ≡ trace.old.failures }
     ensures stopped { (result ≡ Err PutFault.Stopped) ↔ (trace.old.is_stopped ≡ true) }
@@ -32,11 +34,15 @@ pub fn put_trace<P: PortWrite>(
     trace.flush()
 }
 
-// Writes the lines of entries.
-fn put_entries<P: PortWrite>(trace: &mut TraceWriter<P>, entries: &[Entry]) -> Result<(), PutFault>
+/// Writes the lines of entries.
+pub(crate) fn put_entries<P: PortWrite>(
+    trace: &mut TraceWriter<P>,
+    entries: &[Entry],
+) -> Result<(), PutFault>
     requires going { trace.old.is_stopped ≡ false }
     ensures ok { OnOk result (PutsLine trace.old trace.new (trace_text entries.now)) }
-    ensures front { OnErr result (PutsFront trace.old trace.new (trace_text entries.now)) }
+    ensures front { OnErr result (AppendsFront trace.old.written trace.new.written
+        (trace_text entries.now)) }
     ensures device { result ≡ Err PutFault.DeviceFailed → trace.old.failures < trace.new.failures }
     ensures kept { result ≢ Err PutFault.DeviceFailed → trace.new.failures ≡ trace.old.failures }
     ensures goes_on { result ≢ Err PutFault.Stopped }

@@ -1,5 +1,5 @@
 use Rattle.ipc_base.proofs.Fronts.{part_is_front}
-use Rattle.ipc_shell.proofs.PutLemmas.{on_err}
+use Rattle.ipc_trace.proofs.Puts.{on_err}
 use Rattle.ipc_shell.proofs.output.put.Goals as goal
 
 pub returns-in_err-write_all-clause-part : goal.returns-in_err-write_all-clause-part

@@ -98,7 +98,7 @@ nobody_told s place none = sym (none_told (service_of s) place (ap (outcome_at (
     idle (Serving t) e = absurd (none t e)
 
 -- a place past the end
-past_stage : (connections : List RoomyConnection) (place : ℕ) → length connections ≤ place → stage_at connections place ≡ Finished
+pub past_stage : (connections : List RoomyConnection) (place : ℕ) → length connections ≤ place → stage_at connections place ≡ Finished
 past_stage [] place past = refl
 past_stage (roomy ∷ connections) zero past = absurd (omega (arith, past))
 past_stage (roomy ∷ connections) (suc place) past = past_stage connections place (omega (arith, past))

@@ -23,6 +23,7 @@ use Rattle.ipc_exchange.specs.Events.{Commands, Connect, Event, ExchangeParts, F
 use Rattle.ipc_exchange.specs.Feeding.{FeedsConnection, HoldsFor, has_finished}
 use Rattle.ipc_exchange.specs.Exchange.{ClosesConnection, Happened, IsExchange, RoomyExchange, Shows, ShowsHeld, decoder_at, no_decoder}
 use Rattle.ipc_exchange.proofs.ServingLemmas.{all_idle_again, delivered_stage, idle_again, set_stage}
+use Rattle.ipc_exchange.proofs.DeliverLemmas.{past_stage}
 use Rattle.ipc_exchange.proofs.FeedLemmas.{finished_is, service_stage}
 
 -- Serving one connection leaves the stages of the others
@@ -63,11 +64,6 @@ finished_holds : (stage : Stage) (decoder : Decoding) (bytes : List ℕ) → sta
 finished_holds Finished decoder bytes ended held = held
 finished_holds Greeting decoder bytes ended held = absurd cc
 finished_holds (Serving thread) decoder bytes ended held = absurd cc
-
-pub stage_past : (connections : List RoomyConnection) (place : ℕ) → length connections ≤ place → stage_at connections place ≡ Finished
-stage_past [] place past = refl
-stage_past (roomy ∷ connections) zero past = absurd (omega (arith, past))
-stage_past (roomy ∷ connections) (suc place) past = stage_past connections place (omega (arith, past))
 
 module _ (old : RoomyExchange) (parts : ExchangeParts) (shows : Shows old parts) (long : length old.decoders ≡ length old.service.connections) (place : ℕ) (within : place < length old.service.connections) (service : RoomyService) (decoder : Decoding) (left : List ℕ)
     (others : (q : ℕ) → q ≢ place → stage_at service.connections q ≡ stage_at old.service.connections q)
@@ -298,7 +294,7 @@ module _ (old : RoomyExchange) (connection : ℕ) (service : RoomyService) (deco
 
 -- a connection that was never given, or has ended
 pub skipped_stage : (now : RoomyExchange) (connection place : ℕ) → connection ≡ place + 1 → length now.service.connections < connection → stage_at now.service.connections place ≡ Finished
-skipped_stage now connection place at past = stage_past now.service.connections place (omega (arith, at, past))
+skipped_stage now connection place at past = past_stage now.service.connections place (omega (arith, at, past))
 
 pub ended_there : (connections : List RoomyConnection) (connection place : ℕ) → connection ≡ place + 1 → has_finished (stage_at connections (connection - 1)) ≡ true → stage_at connections place ≡ Finished
 ended_there connections connection place at ended = subst (λ p. stage_at connections p ≡ Finished) (omega (arith, at)) (finished_is (stage_at connections (connection - 1)) ended)

@@ -2,6 +2,7 @@
 use Rattle.std.proofs.Common.{◌≡◌, ℕ, zero, suc, List, [], ◌∷◌, ◌++◌, refl, sym, ap, subst, ◌∙◌, append_assoc, Result}
 use Rattle.std.specs.Prelude.{option_map, slice_set}
 use Rattle.std.proofs.lemmas.List.{append-nil}
+use mathlib.Core.List.{IsPrefix}
 use Rattle.ipc_frame.specs.Replies.{ipcr_of}
 use Rattle.ipc_frame.specs.declared.fault.FrameFault.{FrameFault}
 use Rattle.ipc_core.specs.KernelParts.{KernelParts}
@@ -18,37 +19,37 @@ use Rattle.ipc_exchange.specs.Service.{ConnectionParts, ServiceParts, connection
 use Rattle.ipc_words.specs.Limits.{table_slots}
 use Rattle.ipc_exchange.specs.Serving.{Asked, Memory, Serves, ServesAll, ServesBy, Tells}
 use Rattle.ipc_exchange.specs.Events.{Commands, Connect, Copy, Event, ExchangeParts, Finish, HappenAll, Happens, Piece, Reading, held_at}
-use Rattle.ipc_exchange.specs.Laws.{Begins, OutGrows}
+use Rattle.ipc_exchange.specs.Laws.{OutGrows}
 
-begins_same : (bytes : List ℕ) → Begins bytes bytes
-begins_same bytes = record { rest = []; whole_is = sym (append-nil bytes) }
+prefix_same : (bytes : List ℕ) → IsPrefix bytes bytes
+prefix_same bytes = ([], append-nil bytes)
 
-begins_both : (a b c : List ℕ) → Begins a b → Begins b c → Begins a c
-begins_both a b c first next = record { rest = first.rest ++ next.rest; whole_is = next.whole_is ∙ (ap (λ l. l ++ next.rest) first.whole_is ∙ append_assoc a first.rest next.rest) }
+prefix_both : (a b c : List ℕ) → IsPrefix a b → IsPrefix b c → IsPrefix a c
+prefix_both a b c (more, is) (last, is_last) = (more ++ last, sym (append_assoc a more last) ∙ (ap (λ (l : List ℕ). l ++ last) is ∙ is_last))
 
 -- what waits on each connection gets more
 abbrev Grow : List ConnectionParts → List ConnectionParts → Type 0
-Grow old new = (place : ℕ) → Begins (connection_at old place).out (connection_at new place).out
+Grow old new = (place : ℕ) → IsPrefix (connection_at old place).out (connection_at new place).out
 
 grow_none : (connections : List ConnectionParts) → Grow connections connections
-grow_none connections place = begins_same (connection_at connections place).out
+grow_none connections place = prefix_same (connection_at connections place).out
 
 grow_both : (a b c : List ConnectionParts) → Grow a b → Grow b c → Grow a c
-grow_both a b c first next place = begins_both (connection_at a place).out (connection_at b place).out (connection_at c place).out (first place) (next place)
+grow_both a b c first next place = prefix_both (connection_at a place).out (connection_at b place).out (connection_at c place).out (first place) (next place)
 
 -- one connection gets more
 grow_one : (connections : List ConnectionParts) (at : ℕ) (connection : ConnectionParts) (more : List ℕ) → connection.out ≡ (connection_at connections at).out ++ more → Grow connections (slice_set connections at connection)
-grow_one [] at connection more is place = begins_same (connection_at [] place).out
-grow_one (l ∷ connections) zero connection more is zero = record { rest = more; whole_is = is }
-grow_one (l ∷ connections) zero connection more is (suc place) = begins_same (connection_at connections place).out
-grow_one (l ∷ connections) (suc at) connection more is zero = begins_same l.out
+grow_one [] at connection more is place = prefix_same (connection_at [] place).out
+grow_one (l ∷ connections) zero connection more is zero = (more, sym is)
+grow_one (l ∷ connections) zero connection more is (suc place) = prefix_same (connection_at connections place).out
+grow_one (l ∷ connections) (suc at) connection more is zero = prefix_same l.out
 grow_one (l ∷ connections) (suc at) connection more is (suc place) = grow_one connections at connection more is place
 
 -- one more connection
 grow_new : (connections : List ConnectionParts) (connection : ConnectionParts) → Grow connections (connections ++ connection ∷ [])
-grow_new [] connection zero = record { rest = connection.out; whole_is = refl }
-grow_new [] connection (suc place) = begins_same []
-grow_new (l ∷ connections) connection zero = begins_same l.out
+grow_new [] connection zero = (connection.out, refl)
+grow_new [] connection (suc place) = prefix_same []
+grow_new (l ∷ connections) connection zero = prefix_same l.out
 grow_new (l ∷ connections) connection (suc place) = grow_new connections connection place
 
 told_grows : (place : ℕ) (service : ServiceParts) → Grow service.connections (told_outcome place service).connections

@@ -1,5 +1,6 @@
 -- What holds of every exchange.
 use Rattle.std.specs.Prelude.{◌≡◌, ℕ, ◌<◌, List, ◌++◌, Option, Some, None, filter_map, length, ◌↔◌}
+use mathlib.Core.List.{IsPrefix}
 use Rattle.ipc_history.specs.CallParts.{CallParts}
 use Rattle.ipc_history.specs.Legal.{Legal}
 use Rattle.ipc_history.specs.declared.entry.Entry.{Entry}
@@ -72,14 +73,9 @@ HappenOnce = (old one other : ExchangeParts) (events : List Event) (asked others
     → HappenAll Ample old events asked one → HappenAll Ample old events others other
     → (asked ≡ others) × (without_history_room one ≡ without_history_room other)
 
--- bytes, and more behind them
-pub record Begins (front whole : List ℕ) : Type 0 where
-  pub rest : List ℕ
-  pub whole_is : whole ≡ front ++ rest
-
 -- what waits on a connection gets more at its end alone. So what went out on it, followed by what
 -- waits, is all that was told it, in order
 abbrev pub OutGrows : Type 0
 OutGrows = (memory : Memory) (old new : ExchangeParts) (events : List Event) (asked : List Asked)
     → HappenAll memory old events asked new
-    → (place : ℕ) → Begins (connection_at old.service.connections place).out (connection_at new.service.connections place).out
+    → (place : ℕ) → IsPrefix (connection_at old.service.connections place).out (connection_at new.service.connections place).out

@@ -1,5 +1,5 @@
 -- From a trace with a torn line to what is printed of it.
-use Rattle.std.proofs.Common.{◌≡◌, ◌≢◌, ℕ, Bool, true, false, refl, Option, Some, None, IfSome, List, [], ◌++◌, ap, ◌∙◌, append-nil, inr}
+use Rattle.std.proofs.Common.{◌≡◌, ◌≢◌, ℕ, Bool, true, false, refl, sym, Option, Some, None, IfSome, List, [], ◌++◌, ap, ◌∙◌, append-nil, inr}
 use Rattle.std.proofs.lemmas.List.Elements.{All-nil}
 use Rattle.ipc_history.specs.declared.entry.Entry.{Entry}
 use Rattle.std.proofs.KnownBytes.{Appends-nil}
@@ -52,7 +52,7 @@ bad_line (Some bytes) left version entries number (held, number_is, (bad, one, b
   rest = rest;
   one = one;
   is_bad = behind;
-  bytes_are = is;
+  bytes_are = sym is;
   number_is = number_is;
 }
 

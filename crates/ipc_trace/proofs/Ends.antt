@@ -4,6 +4,7 @@ use Rattle.std.proofs.lemmas.Bool.{cases_lt}
 use Rattle.std.proofs.lemmas.List.{length-take, take_all}
 use Rattle.std.specs.Io.KnownBytes.{Consumes, IsAtEnd, prepend_known}
 use Rattle.std.proofs.KnownBytes.{Consumes-trans}
+use mathlib.Core.List.{IsPrefix}
 use Rattle.ipc_words.specs.Limits.{max_line_bytes}
 use Rattle.ipc_history.specs.declared.entry.Entry.{Entry}
 use Rattle.ipc_lines.specs.Limit.{LinesAreWithinTheLimit}
@@ -14,7 +15,7 @@ use Rattle.ipc_lines.specs.declared.reading.LineFault.TheVariants as spelling
 use Rattle.ipc_trace.specs.Reading.{kept, TakesLine}
 use Rattle.ipc_trace.specs.Taking.{EndsSo, KeepsBadLine, ReadsLine, TakesEntry}
 use Rattle.ipc_base.specs.Lines.{IsOneLine}
-use Rattle.ipc_trace.specs.Traces.{Begins, HasUnknownVersion, IsBadBehind, IsNoEntry, IsRead, ended, versioned_text}
+use Rattle.ipc_trace.specs.Traces.{HasUnknownVersion, IsBadBehind, IsNoEntry, IsRead, ended, versioned_text}
 use Rattle.ipc_trace.specs.Versions.{header_lines, may_hold, tells_version, version_line, version_so_far}
 use Rattle.ipc_trace.specs.declared.fault.LineFault.TheVariants as fault
 use Rattle.ipc_trace.specs.declared.fault.TraceEnd.{TraceEnd}
@@ -31,10 +32,10 @@ unheld [] None none = refl
 unheld [] (Some x) none = refl
 unheld (b ∷ bs) rest none = absurd (omega (arith, none))
 
-pub begins : (a c : Option (List ℕ)) (front : List ℕ) → Consumes a c front → Begins a front
+pub begins : (a c : Option (List ℕ)) (front : List ℕ) → Consumes a c front → IfSome a (IsPrefix front)
 begins None c front h = tt
 begins (Some x) None front h = absurd h
-begins (Some x) (Some z) front h = (z, h)
+begins (Some x) (Some z) front h = (z, sym h)
 
 -- a line that spells no entry, though it is not kept whole
 keeps_no_entry : (line : List ℕ) → LinesAreWithinTheLimit → ((entry : Entry) → IsReadable entry → line ≢ entry_text entry) → (text : List ℕ) → line ≡ kept text → IsNoEntry text

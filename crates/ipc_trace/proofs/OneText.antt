@@ -195,4 +195,4 @@ part_not_bad part None number is known has = cc
 part_not_bad part (Some bytes) number is known has =
     let same : bytes ≡ part_text part = cc (known) in
     never_bad nothing_read has.lines (lines_of part) has.bad has.begins.0 has.only has.one has.is_bad (parts_are_read_back part is).follow (readable_part part is)
-    (sym has.begins.1 ∙ same)
+    (has.begins.1 ∙ same)

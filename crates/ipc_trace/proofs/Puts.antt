@@ -4,7 +4,7 @@ use Rattle.std.proofs.lemmas.List.{take_more}
 use lib.Seq.{take-append_seam}
 use Rattle.std.proofs.lemmas.Grind.{flat_map-append}
 use Rattle.std.specs.Io.KnownBytes.{Appends, Keeps}
-use Rattle.std.proofs.KnownBytes.{Appends-nil, Appends-trans, Appends-kept, Keeps-refl}
+use Rattle.std.proofs.KnownBytes.{Appends-nil, Appends-trans, Keeps-refl}
 use Rattle.ipc_base.specs.Ports.{AppendsFront}
 use Rattle.ipc_base.proofs.Fronts.{none_is_front, whole_is_front}
 use Rattle.ipc_history.specs.declared.entry.Entry.{Entry}

@@ -118,4 +118,4 @@ read_as_unknown hold (Some bytes) None version entries end.Torn (held, (torn, on
 read_as_unknown hold (Some bytes) (Some left) version entries end.Torn (held, (torn, one, some, taken, at_end)) = λ u.
     never_read hold version entries bytes torn left one taken at_end u
 read_as_unknown hold (Some bytes) new version entries (end.BadLine number) (held, number_is, (bad, one, behind, (rest, is))) = λ u.
-    never_bad hold version entries bytes bad rest one behind is u
+    never_bad hold version entries bytes bad rest one behind (sym is) u

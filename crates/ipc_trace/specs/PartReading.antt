@@ -1,12 +1,13 @@
 -- How a part is read, line by line and whole.
-use Rattle.std.specs.Prelude.{◌≡◌, ◌≢◌, ℕ, ◌+◌, ◌-◌, ◌^◌, ◌<◌, ◌≤◌, List, [], ◌∷◌, ◌++◌, Bool, true, false, Option, Some, None, Result, Ok, Err, IsTrue, length, min}
+use Rattle.std.specs.Prelude.{◌≡◌, ◌≢◌, ℕ, ◌+◌, ◌-◌, ◌^◌, ◌<◌, ◌≤◌, List, [], ◌∷◌, ◌++◌, Bool, true, false, Option, Some, None, IfSome, Result, Ok, Err, IsTrue, length, min}
 use Rattle.std.specs.Io.KnownBytes.{Consumes, IsAtEnd}
+use mathlib.Core.List.{IsPrefix}
 use Rattle.ipc_words.specs.Limits.{max_line_bytes, table_slots}
 use Rattle.ipc_lines.specs.declared.reading.LineFault.{LineFault}
 use Rattle.ipc_lines.specs.declared.reading.LineFault.TheVariants as fault
 use Rattle.ipc_base.specs.Lines.{IsOneLine}
 use Rattle.ipc_trace.specs.Reading.{kept}
-use Rattle.ipc_trace.specs.Traces.{Begins, ended}
+use Rattle.ipc_trace.specs.Traces.{ended}
 use Rattle.ipc_trace.specs.Lines.{IsReadableLine, line_text, may_stand, number_word}
 use Rattle.ipc_trace.specs.Parts.{IsPart, PartParts, lines_of, lines_text, part_text}
 use Rattle.ipc_trace.specs.Steps.{Follow, PartSoFar, after, after_all, may_follow, nothing_read, part_in}
@@ -95,7 +96,7 @@ pub record HasBadLine (old : Option (List ℕ)) (number : ℕ) : Type 0 where
   pub one : IsOneLine bad
   pub is_bad : IsBadBehind (after_all nothing_read lines) bad
   pub number_is : number ≡ number_behind (length lines)
-  pub begins : Begins old (lines_text lines ++ ended bad)
+  pub begins : IfSome old (IsPrefix (lines_text lines ++ ended bad))
 
 -- how the lines end at one that is not read
 abbrev pub ended_at : LineFault → ℕ → LinesEnd

@@ -2,6 +2,7 @@
 use Rattle.std.specs.Prelude.{◌≡◌, ◌≢◌, ℕ, ◌+◌, ◌<◌, ◌⊎◌, List, [], ◌∷◌, ◌++◌, Option, IfSome, IsTrue, false, length}
 use Rattle.std.specs.List.{flat_map}
 use Rattle.std.specs.Io.KnownBytes.{Consumes, IsAtEnd}
+use mathlib.Core.List.{IsPrefix}
 use Rattle.ipc_history.specs.declared.entry.Entry.{Entry}
 use Rattle.ipc_lines.specs.Lines.{entry_text}
 use Rattle.ipc_lines.specs.Reading.{IsReadable}
@@ -39,10 +40,6 @@ IsBadBehind One [] line = IsBadLine One line × (tells_version line ≡ false)
 IsBadBehind One (entry ∷ entries) line = IsBadLine One line
 IsBadBehind Two entries line = IsBadLine Two line
 
--- known bytes begin so
-abbrev pub Begins : Option (List ℕ) → List ℕ → Type 0
-Begins known front = IfSome known (λ bytes. (rest : List ℕ) × (bytes ≡ front ++ rest))
-
 -- the first line tells a version that is not known
 pub record HasUnknownVersion (bytes : List ℕ) : Type 0 where
   pub first : List ℕ
@@ -74,8 +71,8 @@ IsRead old new version entries Torn = MayHold version entries
 IsRead old new version entries (BadLine number) = MayHold version entries
     × (number ≡ header_lines version + length entries + 1)
     × ((bad : List ℕ) × IsOneLine bad × IsBadBehind version entries bad
-    × Begins old (versioned_text version entries ++ ended bad))
+    × IfSome old (IsPrefix (versioned_text version entries ++ ended bad)))
 IsRead old new version entries UnknownVersion = (version ≡ One) × (entries ≡ [])
     × IfSome old HasUnknownVersion
 IsRead old new version entries NoMemory = MayHold version entries
-    × Begins old (versioned_text version entries)
+    × IfSome old (IsPrefix (versioned_text version entries))

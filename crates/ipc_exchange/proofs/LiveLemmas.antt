@@ -37,7 +37,7 @@ use Rattle.ipc_core.specs.declared.refusal.Refusal.TheVariants.{BadNumber, Numbe
 use Rattle.ipc_exchange.proofs.Opening.{unbroken}
 
 -- entries that break no thread leave it live
-live_more : (P Q : List Entry) (t : ℕ) → list_any (breaks t) Q ≡ false → is_live P t ≡ true → is_live (P ++ Q) t ≡ true
+pub live_more : (P Q : List Entry) (t : ℕ) → list_any (breaks t) Q ≡ false → is_live P t ≡ true → is_live (P ++ Q) t ≡ true
 unfolding is_live was_opened has_broken
 live_more P Q t none live = rw (list_any-append (opens t) P Q, list_any-append (breaks t) P Q, none) (go (list_any (opens t) P) (list_any (breaks t) P) (list_any (opens t) Q) live)
   where
@@ -46,7 +46,7 @@ live_more P Q t none live = rw (list_any-append (opens t) P Q, list_any-append (
     go true true c h = h
     go false b c h = absurd (false≢true h)
 
-outputs_break : (outputs : List Output) (t : ℕ) → list_any (breaks t) (map Written outputs) ≡ false
+pub outputs_break : (outputs : List Output) (t : ℕ) → list_any (breaks t) (map Written outputs) ≡ false
 outputs_break [] t = refl
 outputs_break (output ∷ outputs) t = outputs_break outputs t
 

@@ -6,7 +6,6 @@ use Rattle.std.specs.Option.{option_map_or}
 use Rattle.std.proofs.lemmas.List.Folds.{list_any-append}
 use Rattle.ipc_history.specs.Entries.{breaks}
 use Rattle.ipc_history.specs.Threads.{has_broken, is_live, was_opened}
-use Rattle.ipc_history.specs.Entries.{opens}
 use Rattle.ipc_history.specs.declared.entry.Entry.{Entry}
 use Rattle.ipc_history.specs.declared.entry.Entry.TheVariants.{Given}
 use Rattle.ipc_history.specs.declared.entry.Input.TheVariants as input
@@ -19,16 +18,6 @@ use Rattle.ipc_core.specs.declared.command.Answer.{Answer}
 use Rattle.ipc_core.specs.declared.command.Command.{Command}
 use Rattle.ipc_core.proofs.BusyLaws.{idle_stays, busy_is}
 use Rattle.ipc_desks.specs.CallsOf.{is_busy as waits, last_call}
-
--- a thread that lives still lives behind entries that do not end it
-pub lives_on : (P Q : List Entry) (t : ℕ) → list_any (breaks t) Q ≡ false → is_live P t ≡ true → is_live (P ++ Q) t ≡ true
-unfolding is_live was_opened has_broken
-lives_on P Q t none live =
-    rw (list_any-append (opens t) P Q, list_any-append (breaks t) P Q, none)
-    (go (list_any (opens t) P) (list_any (breaks t) P) (list_any (opens t) Q) live)
-  where
-    go : (a b c : Bool) → (a && not b) ≡ true → ((a || c) && not (b || false)) ≡ true
-    go a b c h = grind arith
 
 -- a thread that ended has nothing to take
 pub ended_untaken : (k : KernelParts) (t : ℕ) → has_broken k.history t ≡ true → has_untaken k t ≡ false

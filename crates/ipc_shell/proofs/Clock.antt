@@ -34,14 +34,15 @@ use Rattle.ipc_core.proofs.BusyLaws.{no_call, outputs_call}
 use Rattle.ipc_core.proofs.Commands.{clock_brings, now_settled}
 use Rattle.ipc_core.proofs.SoundLaws.{stays_sound}
 use Rattle.ipc_desks.specs.CallsOf.{last_call}
+use Rattle.ipc_exchange.proofs.LiveLemmas.{live_more, outputs_break}
 use Rattle.ipc_shell.specs.Replays.{ends_at}
 use Rattle.ipc_shell.specs.Script.{is_untaken}
 use Rattle.ipc_shell.proofs.Untaken.{untaken_other, untaken_written}
 use Rattle.ipc_shell.proofs.AtEnds.{ends_outputs}
-use Rattle.ipc_shell.proofs.Busy.{lives_on, untaken_same}
+use Rattle.ipc_shell.proofs.Busy.{untaken_same}
 use Rattle.ipc_shell.proofs.Fronts.{lead, legal_lead, no_lead, quiet_lead}
 use Rattle.ipc_shell.proofs.Runs.{Leads, leads_one}
-use Rattle.ipc_shell.proofs.Stages.{Stage, Stands, ahead, ahead_same, outputs_end}
+use Rattle.ipc_shell.proofs.Stages.{Stage, Stands, ahead, ahead_same}
 use Rattle.ipc_shell.proofs.Steps.{obeys_by}
 
 later_parts : (H : List Entry) (moment : ℕ) → is_admissible H (input.At moment) ≡ true → (now H < moment) × (moment < last_moment + 1)
@@ -143,8 +144,8 @@ module _ (entries_limit calls_limit : ℕ) (k : KernelParts) (stage : Stage entr
         kept : (t : ℕ) → has_untaken (Comes K) t ≡ has_untaken k t
         kept t = untaken_same k (Comes K) (At m) Done t stage.sound at_end.sound (inl (obeys K ticks_due)) refl refl
             (no_call Q (map Written (lead rest)) t (outputs_call (lead rest) t) ∙ no_call k.history (Given (input.At m) ∷ []) t refl)
-            (λ live. lives_on Q (map Written (lead rest)) t (outputs_end (lead rest) t)
-            (lives_on k.history (Given (input.At m) ∷ []) t refl live))
+            (λ live. live_more Q (map Written (lead rest)) t (outputs_break (lead rest) t)
+            (live_more k.history (Given (input.At m) ∷ []) t refl live))
 
     -- and where none is: nothing comes of the At
     undue : list_any (is_due_at k.history m) (numbers k.history) ≡ false → Leads k (At m ∷ []) (Stands entries_limit calls_limit K)

@@ -22,7 +22,7 @@ use Rattle.ipc_history.specs.declared.entry.Input.TheVariants as input
 use Rattle.ipc_history.specs.declared.entry.Output.{Output}
 use Rattle.ipc_laws.specs.Counting.{pledged}
 use Rattle.ipc_laws.proofs.Changing.{changes}
-use Rattle.ipc_laws.proofs.Numbering.{numbers_push, numbers_push_called}
+use Rattle.ipc_laws.proofs.Numbering.{numbers_push_called}
 use Rattle.ipc_laws.proofs.Places.{any_at}
 use Rattle.ipc_laws.proofs.Tests.{not_both}
 use Rattle.ipc_core.specs.CommandRoom.{is_clock}
@@ -44,6 +44,7 @@ use Rattle.ipc_core.specs.declared.refusal.Refusal.TheVariants.{BadNumber, Numbe
 use Rattle.ipc_core.specs.declared.refusal.Refusal.TheVariants.{CallsSpent}
 use Rattle.ipc_core.proofs.Commands.{clock_brings, now_settled, now_with_input}
 use Rattle.ipc_core.proofs.SoundLaws.{stays_sound}
+use Rattle.ipc_threads.proofs.OutputSteps.{calls_made_kept}
 use Rattle.ipc_shell.specs.Replays.{FindsRoom, IsBehindAt, KernelsMayBe, MayBeKernels, ends_at, is_at}
 use Rattle.ipc_shell.proofs.AtEnds.{ends_outputs, ends_push, ends_written, no_at}
 use Rattle.ipc_shell.proofs.Replaying.{empty_stage}
@@ -125,22 +126,18 @@ later_still : (old new : KernelParts) (reading : ℕ) → now old.history ≤ ol
     → now old.history ≤ new.moment
 later_still old new reading past is = omega (arith, is)
 
--- how many calls were made
-made_push : (P : List Entry) (e : Entry) → number_in e ≡ None → calls_made (P ++ e ∷ []) ≡ calls_made P
-unfolding calls_made
-made_push P e none = ap length (numbers_push P e none)
-
+-- outputs make no call
 made_written : (P : List Entry) (outputs : List Output) → calls_made (P ++ map Written outputs) ≡ calls_made P
 made_written P [] = ap calls_made (append-nil P)
 made_written P (output ∷ outputs) =
     ap calls_made (sym (append_assoc P (Written output ∷ []) (map Written outputs)))
-    ∙ (made_written (P ++ Written output ∷ []) outputs ∙ made_push P (Written output) refl)
+    ∙ (made_written (P ++ Written output ∷ []) outputs ∙ calls_made_kept P (Written output) refl)
 
 made_ahead : (k : KernelParts) → calls_made (ahead k) ≡ calls_made k.history
 made_ahead k = go (nat_lt (now k.history) k.moment)
   where
     go : (b : Bool) → calls_made (k.history ++ (if b then Given (input.At k.moment) ∷ [] else [])) ≡ calls_made k.history
-    go true = made_push k.history (Given (input.At k.moment)) refl
+    go true = calls_made_kept k.history (Given (input.At k.moment)) refl
     go false = ap calls_made (append-nil k.history)
 
 few_more : (old new : KernelParts) (given : Input) (limit : ℕ) → Takes old new given → number_in (Given given) ≡ None
@@ -148,7 +145,7 @@ few_more : (old new : KernelParts) (given : Input) (limit : ℕ) → Takes old n
 few_more old new given limit takes none few =
     subst (λ n. n ≤ limit)
     (sym (ap calls_made takes.history.appended
-    ∙ (made_written _ takes.history.outputs ∙ (made_push (ahead old) (Given given) none ∙ made_ahead old)))) few
+    ∙ (made_written _ takes.history.outputs ∙ (calls_made_kept (ahead old) (Given given) none ∙ made_ahead old)))) few
 
 made_one : (P : List Entry) (n thread : ℕ) (call : CallParts)
     → calls_made (P ++ Given (input.Called n thread call) ∷ []) ≡ calls_made P + 1
@@ -311,7 +308,7 @@ module _ (entries_limit calls_limit : ℕ) (old new : KernelParts) (has : Has en
         closed = ap ends_at appended ∙ ends_outputs (old.history ++ Given (input.At (at_moment old reading)) ∷ []) output outputs;
       }) (subst (λ n. n ≤ calls_limit)
           (sym (ap calls_made appended
-          ∙ (made_written _ (output ∷ outputs) ∙ made_push old.history (Given (input.At (at_moment old reading))) refl))) has.calls)
+          ∙ (made_written _ (output ∷ outputs) ∙ calls_made_kept old.history (Given (input.At (at_moment old reading))) refl))) has.calls)
           (Given (input.At (at_moment old reading)) ∷ map Written (output ∷ outputs))
           (appended ∙ append_assoc old.history (Given (input.At (at_moment old reading)) ∷ []) (map Written (output ∷ outputs)))
           moments room

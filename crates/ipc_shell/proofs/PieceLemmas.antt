@@ -1,8 +1,9 @@
 -- From what a chunk adds to a line to what a read does, and from the reads of a line to the line.
-use Rattle.std.proofs.Common.{◌≡◌, ◌≢◌, ℕ, ◌<◌, ◌≤◌, Option, Some, None, IfSome, List, [], ◌∷◌, ◌++◌, length, take, drop, sym, ap, subst, ◌∙◌, arith, append_assoc, append-nil, take-append-drop}
+use Rattle.std.proofs.Common.{◌≡◌, ◌≢◌, ℕ, ◌<◌, ◌≤◌, Option, Some, None, IfSome, List, [], ◌∷◌, ◌++◌, length, take, drop, sym, ap, subst, ◌∙◌, arith, append_assoc, append-nil}
 use Rattle.std.specs.Io.KnownBytes.{Keeps, Consumes, IsAtEnd, prepend_known}
 use Rattle.std.proofs.KnownBytes.{Consumes-trans, Consumes-kept}
 use Rattle.std.proofs.lemmas.List.Elements.{All-append}
+use Rattle.ipc_trace.proofs.Pieces.{used}
 use Rattle.ipc_shell.specs.ScriptLines.{lines_of, longest_line}
 use Rattle.ipc_base.specs.Lines.{IsOneLine}
 use Rattle.ipc_shell.specs.Reading.{Adds, ReadsPiece, ReadsLine}
@@ -15,12 +16,6 @@ known_front : (a c : Option (List ℕ)) (part : List ℕ) → Consumes a c part 
 known_front None c part h = tt
 known_front (Some x) None part h = absurd h
 known_front (Some x) (Some z) part h = (z, h)
-
--- a buffer was filled, and so many of its bytes were used
-pub used : (a rest : Option (List ℕ)) (shown : List ℕ) (n : ℕ) → Keeps a (prepend_known shown rest) → Consumes a (prepend_known (drop n shown) rest) (take n shown)
-used None rest shown n kept = tt
-used (Some x) None shown n kept = absurd kept
-used (Some x) (Some y) shown n kept = sym kept ∙ ap (λ bytes. bytes ++ y) (sym (take-append-drop n shown)) ∙ append_assoc (take n shown) (drop n shown) y
 
 -- nothing was left to show
 known_end : (a rest : Option (List ℕ)) (shown : List ℕ) → Keeps a (prepend_known shown rest) → length shown ≡ 0 → IsAtEnd rest → IsAtEnd a

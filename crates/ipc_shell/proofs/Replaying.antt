@@ -3,19 +3,17 @@ use Rattle.std.proofs.Common.{◌≡◌, refl, sym, ap, subst, ◌∙◌, ℕ, �
 use Rattle.std.proofs.Common.{arith}
 use Rattle.std.specs.Prelude.{nat_lt}
 use Rattle.std.specs.List.{All, IsDistinct}
-use Rattle.std.proofs.lemmas.Bool.{false≢true}
 use Rattle.std.proofs.lemmas.List.Elements.{All-nil}
-use Rattle.ipc_history.specs.Calls.{call_at, is_called}
 use Rattle.ipc_history.specs.Threads.{is_live, now, was_opened}
 use Rattle.ipc_history.specs.declared.entry.Entry.{Entry}
 use Rattle.ipc_history.specs.declared.entry.Entry.TheVariants.{Written}
-use Rattle.ipc_core.specs.Books.{TookOthers}
 use Rattle.ipc_core.specs.KernelParts.{KernelParts}
 use Rattle.ipc_core.specs.Laws.{IsSound}
 use Rattle.ipc_core.specs.Obeying.{empty_kernel}
 use Rattle.ipc_core.specs.Outcomes.{IsTaken, has_untaken, outcome_to_take}
 use Rattle.ipc_core.proofs.Commands.{nothing_legal, nothing_quiet}
 use Rattle.ipc_core.proofs.RunLaws.{runs_once}
+use Rattle.ipc_core.proofs.OtherCalls.{others_none}
 use Rattle.ipc_shell.specs.Replays.{IsDone, MayBeKernels, Replays, ScriptReplays, ScriptRuns}
 use Rattle.ipc_shell.specs.Script.{commands_from, commands_of, last_takes}
 use Rattle.ipc_shell.proofs.Untaken.{untaken_none}
@@ -29,10 +27,6 @@ now_nothing : now [] ≡ 0
 unfolding now
 now_nothing = refl
 
-none_called : TookOthers [] []
-unfolding is_called call_at
-none_called n called = absurd (false≢true called)
-
 module _ (entries_limit calls_limit : ℕ) where
   abbrev first : KernelParts
   first = empty_kernel entries_limit calls_limit
@@ -44,7 +38,7 @@ module _ (entries_limit calls_limit : ℕ) where
     quiet = nothing_quiet;
     taken = All-nil (IsTaken []);
     once = tt;
-    others = none_called;
+    others = others_none;
     since = omega arith;
   }
 

@@ -10,9 +10,6 @@ line_is_no_failure is = absurd (search rules)
 pub none_is_not_some : {X : Type 0} {x : X} (value : Option X) → value ≡ None → value ≡ Some x → ⊥
 none_is_not_some value none some = cc
 
-pub some_injective : {X : Type 0} {x y : X} → Some x ≡ Some y → x ≡ y
-some_injective is = cc
-
 -- where no bytes stand before them
 pub prepend_none : (held : List ℕ) (bytes : Option (List ℕ)) → held ≡ [] → prepend_known held bytes ≡ bytes
 prepend_none [] None none = refl

@@ -28,11 +28,12 @@ use Rattle.ipc_core.proofs.AfterAt.{same_admissible}
 use Rattle.ipc_core.proofs.BusyLaws.{clock_call, no_call, outputs_call}
 use Rattle.ipc_core.proofs.Commands.{now_settled, now_with_input}
 use Rattle.ipc_core.proofs.SoundLaws.{stays_sound}
+use Rattle.ipc_exchange.proofs.LiveLemmas.{live_more, outputs_break}
 use Rattle.ipc_shell.specs.Replays.{ends_at}
 use Rattle.ipc_shell.specs.Script.{is_act, is_call, is_untaken}
 use Rattle.ipc_shell.proofs.Untaken.{untaken_act, untaken_other, untaken_written}
 use Rattle.ipc_shell.proofs.AtEnds.{ends_push, ends_written, no_at}
-use Rattle.ipc_shell.proofs.Busy.{lives_on, untaken_same}
+use Rattle.ipc_shell.proofs.Busy.{untaken_same}
 
 -- its history, and the At that its next input would bring
 abbrev pub ahead : KernelParts → List Entry
@@ -72,11 +73,6 @@ admitted k given no_clock h = go (nat_lt (now k.history) k.moment) h
         → is_admissible k.history given ≡ true
     go true h = sym (same_admissible k.history k.moment given no_clock) ∙ h
     go false h = ap (λ l. is_admissible l given) (sym (append-nil k.history)) ∙ h
-
--- ends of a thread
-pub outputs_end : (outputs : List Output) (t : ℕ) → list_any (breaks t) (map Written outputs) ≡ false
-outputs_end [] t = refl
-outputs_end (output ∷ outputs) t = outputs_end outputs t
 
 -- what a kernel is after an input, which brought these outputs
 abbrev pub after : KernelParts → List Entry → KernelParts
@@ -155,9 +151,9 @@ module _ (k : KernelParts) (given : Input) (outputs : List Output) (K : List Ent
     lives_other : (t : ℕ) → is_act t (Given given) ≡ false → is_live k.history t ≡ true → is_live K t ≡ true
     lives_other t other live =
         ap (λ H. is_live H t) whole
-        ∙ lives_on (ahead k ++ Given given ∷ []) (map Written outputs) t (outputs_end outputs t)
-        (lives_on (ahead k) (Given given ∷ []) t (ends_other given t other)
-        (lives_on k.history (at_if_later k.history k.moment) t (clock_ends t) live))
+        ∙ live_more (ahead k ++ Given given ∷ []) (map Written outputs) t (outputs_break outputs t)
+        (live_more (ahead k) (Given given ∷ []) t (ends_other given t other)
+        (live_more k.history (at_if_later k.history k.moment) t (clock_ends t) live))
 
     -- what it has to take stays
     untaken_kept : (t : ℕ) → is_act t (Given given) ≡ false → is_call_of t command ≡ false → has_untaken (after k K) t ≡ has_untaken k t

@@ -11,7 +11,7 @@ use Rattle.ipc_history.specs.Blocks.{block_of}
 use Rattle.ipc_history.specs.CallParts.{CallParts}
 use Rattle.ipc_history.specs.Calls.{calls_made}
 use Rattle.ipc_history.specs.Legal.{Legal, Quiet, is_admissible, is_free, may_move, may_open, next_moving}
-use Rattle.ipc_history.specs.Threads.{has_broken, is_live, is_taken, next_version, was_opened}
+use Rattle.ipc_history.specs.Threads.{has_broken, is_live, is_taken, next_version}
 use Rattle.ipc_history.specs.declared.entry.Entry.{Entry}
 use Rattle.ipc_history.specs.declared.entry.Entry.TheVariants.{Given, Written}
 use Rattle.ipc_history.specs.declared.entry.Input.{Input}
@@ -21,6 +21,7 @@ use Rattle.ipc_laws.specs.Counting.{pledged}
 use Rattle.ipc_laws.proofs.LiveThreads.{taken}
 use Rattle.ipc_laws.proofs.OneOpen.{free_parts}
 use Rattle.ipc_laws.proofs.Tests.{held, left, not_both, right}
+use Rattle.ipc_laws.proofs.Endings.{live_opened}
 use Rattle.ipc_core.specs.ExchangeRegisters.{exreg_answer}
 use Rattle.ipc_core.specs.KernelParts.{KernelParts}
 use Rattle.ipc_core.specs.Laws.{IsSound}
@@ -107,11 +108,7 @@ move_parts : (H : List Entry) (n count : ℕ) → is_admissible H (input.Moved n
 unfolding is_admissible may_move
 move_parts H n count h = (held (next_moving H) n (left _ _ h), eqb-true count (block_of H n) (right _ _ h))
 
--- a thread that lives was opened, and one that does not has nothing to take
-live_opened : (H : List Entry) (t : ℕ) → is_live H t ≡ true → was_opened H t ≡ true
-unfolding is_live
-live_opened H t live = left _ _ live
-
+-- a thread that does not live has nothing to take
 dead_untaken : (k : KernelParts) (t : ℕ) → is_live k.history t ≡ false → has_untaken k t ≡ false
 unfolding has_untaken
 dead_untaken k t dead = rw dead refl

@@ -11,9 +11,10 @@ use Rattle.ipc_history.specs.Words.{first_some}
 use Rattle.ipc_history.specs.Calls.{caller_of}
 use Rattle.ipc_history.specs.Outcomes.{OutcomeParts, end_moment, outcome_in, outcome_of, nothing, timed}
 use Rattle.ipc_history.specs.Phases.{is_over}
-use Rattle.ipc_history.specs.Threads.{has_broken, is_live, was_opened}
+use Rattle.ipc_history.specs.Threads.{has_broken, is_live}
 use Rattle.ipc_history.specs.declared.entry.Entry.{Entry}
 use Rattle.ipc_laws.proofs.Tests.{left, not_both, refuted, right}
+use Rattle.ipc_laws.proofs.Endings.{live_unbroken}
 use Rattle.ipc_core.specs.KernelParts.{KernelParts}
 use Rattle.ipc_core.specs.Laws.{IsSound}
 use Rattle.ipc_core.specs.Obeying.{Does, Obeys, cause_of}
@@ -53,16 +54,12 @@ has_last k thread some = go (last_call k.history thread) refl (right (is_live k.
     go (Some n) e h =
         record { number = n; last = e; fresh = refuted (is_among n k.taken) h; live = left (is_live k.history thread) _ some }
 
-alive : (H : List Entry) (t : ℕ) → is_live H t ≡ true → has_broken H t ≡ false
-unfolding is_live
-alive H t live = refuted (has_broken H t) (right (was_opened H t) _ live)
-
 pub to_take : (k : KernelParts) (thread : ℕ) → IsSound k → (own : HasLast k thread) → is_over k.history own.number ≡ true
     → (o : OutcomeParts) × (outcome_to_take k thread ≡ Some o)
 unfolding outcome_to_take waiting
 to_take k thread sound own over =
     let caller = (last_is k.history sound.legal thread own.number own.last).0 in
-    let told = told_of k.history own.number over (ap (has_broken k.history) caller ∙ alive k.history thread own.live) in
+    let told = told_of k.history own.number over (ap (has_broken k.history) caller ∙ live_unbroken k.history thread own.live) in
     (told.0, rw (own.live, own.last, own.fresh) told.1)
 
 -- and what it has not to take

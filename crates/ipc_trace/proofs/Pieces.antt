@@ -51,7 +51,7 @@ pub none_is_no_failure : None ≢ Some Failed
 none_is_no_failure is = cc
 
 -- a buffer was filled, and so many of its bytes were used
-used : (a rest : Option (List ℕ)) (shown : List ℕ) (n : ℕ) → Keeps a (prepend_known shown rest) → Consumes a (prepend_known (drop n shown) rest) (take n shown)
+pub used : (a rest : Option (List ℕ)) (shown : List ℕ) (n : ℕ) → Keeps a (prepend_known shown rest) → Consumes a (prepend_known (drop n shown) rest) (take n shown)
 used None rest shown n same = tt
 used (Some x) None shown n same = absurd same
 used (Some x) (Some y) shown n same = sym same ∙ ap (λ bytes. bytes ++ y) (sym (take-append-drop n shown)) ∙ append_assoc (take n shown) (drop n shown) y

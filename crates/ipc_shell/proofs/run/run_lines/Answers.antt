@@ -2,10 +2,11 @@ use Rattle.std.proofs.Common.{◌≡◌, ◌+◌, ◌<◌, true, length, Some, i
 use Rattle.std.proofs.lemmas.Grind.{common_steps}
 use Rattle.std.specs.Io.KnownBytes.{prepend_known}
 use Rattle.std.proofs.KnownBytes.{Appends-nil}
+use Rattle.std.proofs.lemmas.Option.{same_Some}
 use Rattle.ipc_shell.specs.Reading.{ReadsLine}
 use Rattle.ipc_core.specs.KernelParts.{KernelParts}
 use Rattle.ipc_shell.specs.Running.{EndsLine, IsNoCommand, RunsLine}
-use Rattle.ipc_shell.proofs.RunLemmas.{none_is_not_some, some_injective, line_is_no_failure}
+use Rattle.ipc_shell.proofs.RunLemmas.{none_is_not_some, line_is_no_failure}
 use Rattle.ipc_shell.proofs.ScriptLemmas.{ObeyedSoFar, none_obeyed, many_obeyed, one_empty_line, one_command_line, stops_without_memory, stops_with_device, stops_done, stops_too_long, stops_at_line}
 use Rattle.ipc_shell.proofs.run.run_lines.Goals.{then-is_empty, in-Line-2+in_default}
 use Rattle.ipc_shell.proofs.run.run_lines.Goals as goal
@@ -106,11 +107,11 @@ returns-in-Some-clause-device g c = λ is. inl (omega (
 pub returns-in-Some-clause-kept : goal.returns-in-Some-clause-kept
 returns-in-Some-clause-kept g c = λ is_not. (
   c.in-Line-2.ensures.kept line_is_no_failure ∙ c.lines.invariant.read,
-  c.in-Some.ensures.kept (λ is. is_not (some_injective is)) ∙ c.lines.invariant.written,
+  c.in-Some.ensures.kept (λ is. is_not (same_Some _ _ is)) ∙ c.lines.invariant.written,
 )
 
 pub returns-in-Some-clause-flushed : goal.returns-in-Some-clause-flushed
-returns-in-Some-clause-flushed g c = λ is_not before. c.in-Some.ensures.flushed (λ is. is_not (some_injective is)) (c.lines.invariant.flushed before)
+returns-in-Some-clause-flushed g c = λ is_not before. c.in-Some.ensures.flushed (λ is. is_not (same_Some _ _ is)) (c.lines.invariant.flushed before)
 
 pub returns-clause-device : goal.returns-clause-device
 returns-clause-device g c = λ _. inr (many_obeyed KernelParts RunsLine IsNoCommand c.args.kernel.now (prepend_known c.args.buffer.now (g.R.PortRead.remaining c.args.reader.now))

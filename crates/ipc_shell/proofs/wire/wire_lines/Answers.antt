@@ -1,11 +1,12 @@
 use Rattle.std.proofs.Common.{◌≡◌, ◌+◌, ◌<◌, true, length, Some, inl, inr, refl, sym, subst, ap, ◌∙◌, arith, eqb-true, vec_len}
 use Rattle.std.proofs.lemmas.Grind.{common_steps}
 use Rattle.std.specs.Io.KnownBytes.{prepend_known}
+use Rattle.std.proofs.lemmas.Option.{same_Some}
 use Rattle.ipc_shell.specs.Reading.{ReadsLine}
 use Rattle.ipc_exchange.specs.Events.{ExchangeParts}
 use Rattle.ipc_exchange.specs.Exchange.{Shows}
 use Rattle.ipc_shell.specs.Wiring.{EndsWireLine}
-use Rattle.ipc_shell.proofs.RunLemmas.{none_is_not_some, some_injective, line_is_no_failure}
+use Rattle.ipc_shell.proofs.RunLemmas.{none_is_not_some, line_is_no_failure}
 use Rattle.ipc_shell.proofs.WireLemmas.{WiredSoFar, none_wired, empty_wired, line_wired, wired_at_line, wired_too_long, wired_done, wired_without_memory, wired_with_device, many_wired}
 use Rattle.ipc_shell.proofs.wire.wire_lines.Goals.{then-is_empty, in-Line-2+in_default}
 use Rattle.ipc_shell.proofs.wire.wire_lines.Goals as goal
@@ -107,11 +108,11 @@ returns-in-Some-clause-device g c = λ parts shows is. inl (omega (
 pub returns-in-Some-clause-kept : goal.returns-in-Some-clause-kept
 returns-in-Some-clause-kept g c = λ is_not. (
   c.in-Line-2.ensures.kept line_is_no_failure ∙ c.lines.invariant.read,
-  c.in-Some.ensures.kept (λ is. is_not (some_injective is)) ∙ c.lines.invariant.written,
+  c.in-Some.ensures.kept (λ is. is_not (same_Some _ _ is)) ∙ c.lines.invariant.written,
 )
 
 pub returns-in-Some-clause-flushed : goal.returns-in-Some-clause-flushed
-returns-in-Some-clause-flushed g c = λ is_not before. c.in-Some.ensures.flushed (λ is. is_not (some_injective is)) (c.lines.invariant.flushed before)
+returns-in-Some-clause-flushed g c = λ is_not before. c.in-Some.ensures.flushed (λ is. is_not (same_Some _ _ is)) (c.lines.invariant.flushed before)
 
 pub returns-clause-device : goal.returns-clause-device
 returns-clause-device g c = λ parts shows _. inr (many_wired parts c.lines.number (g.W.PortWrite.written c.args.writer.now) (g.W.PortWrite.written c.lines.writer)

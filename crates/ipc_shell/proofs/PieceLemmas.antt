@@ -4,7 +4,8 @@ use Rattle.std.specs.Io.KnownBytes.{Keeps, Consumes, IsAtEnd, prepend_known}
 use Rattle.std.proofs.KnownBytes.{Consumes-trans, Consumes-kept}
 use Rattle.std.proofs.lemmas.List.Elements.{All-append}
 use Rattle.ipc_trace.proofs.Pieces.{used}
-use Rattle.ipc_shell.specs.ScriptLines.{lines_of, longest_line}
+use Rattle.ipc_words.specs.Limits.{max_line_bytes}
+use Rattle.ipc_shell.specs.ScriptLines.{lines_of}
 use Rattle.ipc_base.specs.Lines.{IsOneLine}
 use Rattle.ipc_shell.specs.Reading.{Adds, ReadsPiece, ReadsLine}
 use Rattle.ipc_shell.specs.declared.lines.NextLine.TheVariants as next
@@ -50,7 +51,7 @@ line_longer a b c before line part so_far is more = subst (Consumes a c) (sym is
 pub one_line_longer : (before line part : List ℕ) → IsOneLine before → (line ≡ before ++ part) → IsOneLine part → IsOneLine line
 one_line_longer before line part one is more = subst IsOneLine (sym is) (All-append (λ byte. byte ≢ 10) before part one more)
 
-pub line_ends : (a b c : Option (List ℕ)) (before line : List ℕ) → IsOneLine before → length before ≤ longest_line → Consumes a b before → ReadsPiece b c before line piece.LineEnd → ReadsLine a c line next.Line
+pub line_ends : (a b c : Option (List ℕ)) (before line : List ℕ) → IsOneLine before → length before ≤ max_line_bytes → Consumes a b before → ReadsPiece b c before line piece.LineEnd → ReadsLine a c line next.Line
 line_ends None b c before line one fits so_far read = tt
 line_ends (Some x) None c before line one fits so_far read = absurd so_far
 line_ends (Some x) (Some y) None before line one fits so_far (part, is, more, rest, short) = absurd rest
@@ -64,7 +65,7 @@ line_too_long None b c before line one so_far read = tt
 line_too_long (Some x) None c before line one so_far read = absurd so_far
 line_too_long (Some x) (Some y) c before line one so_far (part, more, long, (rest, is)) =
     let whole : x ≡ (before ++ part) ++ rest = so_far ∙ ap (λ ys. before ++ ys) is ∙ sym (append_assoc before part rest) in
-    let (first, past) = lines_long (before ++ part) rest longest_line (All-append (λ byte. byte ≢ 10) before part one more) long in
+    let (first, past) = lines_long (before ++ part) rest max_line_bytes (All-append (λ byte. byte ≢ 10) before part one more) long in
     (first, (past.0, ap lines_of whole ∙ past.1, past.2))
 
 pub line_at_end : (a b c : Option (List ℕ)) (before line : List ℕ) → Consumes a b before → ReadsPiece b c before line piece.InputEnd → length line ≡ 0 → ReadsLine a c line next.End
@@ -73,7 +74,7 @@ line_at_end (Some x) None c before line so_far read empty = absurd so_far
 line_at_end (Some x) (Some y) c [] line so_far (same, kept, none) empty = ap lines_of (so_far ∙ none)
 line_at_end (Some x) (Some y) c (b ∷ bs) line so_far (same, kept, none) empty = absurd (omega (arith, ap length same, empty))
 
-pub line_last : (a b c : Option (List ℕ)) (before line : List ℕ) → IsOneLine before → length before ≤ longest_line → Consumes a b before → ReadsPiece b c before line piece.InputEnd → 0 < length line → ReadsLine a c line next.Line
+pub line_last : (a b c : Option (List ℕ)) (before line : List ℕ) → IsOneLine before → length before ≤ max_line_bytes → Consumes a b before → ReadsPiece b c before line piece.InputEnd → 0 < length line → ReadsLine a c line next.Line
 line_last None b c before line one short so_far read some = tt
 line_last (Some x) None c before line one short so_far read some = absurd so_far
 line_last (Some x) (Some y) None before line one short so_far (same, kept, none) some = absurd kept

@@ -3,7 +3,8 @@ use Rattle.std.proofs.Common.{◌≡◌, ℕ, ◌+◌, ◌<◌, ◌≤◌, Optio
 use Rattle.std.specs.Option.{IsSomeAnd}
 use Rattle.std.specs.Io.KnownBytes.{Appends}
 use Rattle.std.proofs.KnownBytes.{Appends-nil, Appends-trans}
-use Rattle.ipc_shell.specs.ScriptLines.{lines_of, longest_line}
+use Rattle.ipc_words.specs.Limits.{max_line_bytes}
+use Rattle.ipc_shell.specs.ScriptLines.{lines_of}
 use Rattle.ipc_shell.specs.Failing.{most_lines}
 use Rattle.ipc_shell.specs.Reading.{ReadsLine}
 use Rattle.ipc_shell.specs.Scripts.{ObeysLine, ObeysLines, StopsAfterLines, RunsLines, EndsAtLine}
@@ -24,7 +25,7 @@ pub record ObeyedOf {S : Type 0} (Obeys : S → List ℕ → List ℕ → S → 
 abbrev pub ObeyedSoFar : {S : Type 0} → (S → List ℕ → List ℕ → S → Type 0) → S → Option (List ℕ) → Option (List ℕ) → Option (List ℕ) → Option (List ℕ) → S → ℕ → Type 0
 ObeyedSoFar Obeys start bytes rest before now state number = IfSome bytes (λ bytes. IsSomeAnd rest (λ rest. ObeyedOf Obeys start bytes rest before now state number))
 
-short_line : (rest left : Option (List ℕ)) (line : List ℕ) → ReadsLine rest left line next.Line → IfSome rest (λ _. length line ≤ longest_line)
+short_line : (rest left : Option (List ℕ)) (line : List ℕ) → ReadsLine rest left line next.Line → IfSome rest (λ _. length line ≤ max_line_bytes)
 short_line None left line read = tt
 short_line (Some rest) None line read = absurd read
 short_line (Some rest) (Some left) line read = read.1
@@ -51,7 +52,7 @@ module _ (S : Type 0) (Obeys : S → List ℕ → List ℕ → S → Type 0) (Is
       omega (arith, ap length so_far.lines_are, length-append so_far.before (lines_of rest), so_far.number_is, many)
 
   -- a line that is not empty
-  obeys_filled : (old new : S) (line text : List ℕ) → 0 < length line → length line ≤ longest_line → Obeys old line text new → ObeysLine Obeys old line text new
+  obeys_filled : (old new : S) (line text : List ℕ) → 0 < length line → length line ≤ max_line_bytes → Obeys old line text new → ObeysLine Obeys old line text new
   obeys_filled old new [] text some short runs = absurd (omega arith)
   obeys_filled old new (byte ∷ bytes) text some short runs = (short, runs)
 

@@ -4,7 +4,8 @@ use Rattle.std.specs.Prelude.{List, Option, length, take, IfSome}
 use Rattle.std.specs.Option.{IsSomeAnd}
 use Rattle.ipc_base.specs.Lines.{IsOneLine}
 use Rattle.std.specs.Io.KnownBytes.{Consumes, IsAtEnd}
-use Rattle.ipc_shell.specs.ScriptLines.{lines_of, longest_line}
+use Rattle.ipc_words.specs.Limits.{max_line_bytes}
+use Rattle.ipc_shell.specs.ScriptLines.{lines_of}
 use Rattle.ipc_shell.specs.declared.lines.NextLine.{NextLine}
 use Rattle.ipc_shell.specs.declared.lines.NextLine.TheVariants as next
 use Rattle.ipc_shell.specs.declared.lines.Piece.{Piece}
@@ -14,14 +15,14 @@ use Rattle.ipc_shell.specs.declared.lines.Piece.TheVariants as piece
 abbrev pub BeginsTooLong : List (List ℕ) → Type 0
 BeginsTooLong lines =
     (first : List ℕ) × ((others : List (List ℕ)) × (lines ≡ first ∷ others)
-    × (longest_line < length first))
+    × (max_line_bytes < length first))
 
 -- what was read next, of the bytes that were there and those that are left: the first line, or that
 -- it is too long, or that there is none
 abbrev pub ReadsLine : Option (List ℕ) → Option (List ℕ) → List ℕ → NextLine → Type 0
 ReadsLine old new line next.Line =
     IfSome old (λ bytes. IsSomeAnd new
-    (λ rest. (lines_of bytes ≡ line ∷ lines_of rest) × (length line ≤ longest_line)))
+    (λ rest. (lines_of bytes ≡ line ∷ lines_of rest) × (length line ≤ max_line_bytes)))
 ReadsLine old new line next.TooLong = IfSome old (λ bytes. BeginsTooLong (lines_of bytes))
 ReadsLine old new line next.End = IfSome old (λ bytes. lines_of bytes ≡ [])
 ReadsLine old new line next.Failed = Unit {0}
@@ -29,7 +30,7 @@ ReadsLine old new line next.NoMemory = Unit {0}
 
 -- a line that was short enough still is
 abbrev pub StaysShort : List ℕ → List ℕ → Type 0
-StaysShort before line = length before ≤ longest_line → length line ≤ longest_line
+StaysShort before line = length before ≤ max_line_bytes → length line ≤ max_line_bytes
 
 -- what a read adds to a line
 abbrev pub ReadsPiece : Option (List ℕ) → Option (List ℕ) → List ℕ → List ℕ → Piece → Type 0
@@ -40,7 +41,7 @@ ReadsPiece old new before line piece.LineEnd =
     (part : List ℕ) × (line ≡ before ++ part) × IsOneLine part × Consumes old new (part ++ 10 ∷ [])
     × StaysShort before line
 ReadsPiece old new before line piece.TooLong =
-    (part : List ℕ) × IsOneLine part × (longest_line < length (before ++ part))
+    (part : List ℕ) × IsOneLine part × (max_line_bytes < length (before ++ part))
     × IfSome old (λ bytes. (rest : List ℕ) × (bytes ≡ part ++ rest))
 ReadsPiece old new before line piece.InputEnd = (line ≡ before) × Consumes old new [] × IsAtEnd old
 ReadsPiece old new before line piece.Failed = Unit {0}
@@ -54,7 +55,7 @@ Adds before line chunk taken piece.LineEnd =
     (part : List ℕ) × (take taken chunk ≡ part ++ 10 ∷ []) × (line ≡ before ++ part)
     × IsOneLine part × StaysShort before line
 Adds before line chunk taken piece.TooLong =
-    IsOneLine (take taken chunk) × (longest_line < length (before ++ take taken chunk))
+    IsOneLine (take taken chunk) × (max_line_bytes < length (before ++ take taken chunk))
 Adds before line chunk taken piece.InputEnd = (line ≡ before) × (taken ≡ 0) × (length chunk ≡ 0)
 Adds before line chunk taken piece.Failed = Unit {0}
 Adds before line chunk taken piece.NoMemory = Unit {0}

@@ -1,6 +1,5 @@
 -- Our choice (docs/FORMATS.md): the lines of a script.
 use Rattle.std.specs.Prelude.{ℕ, List, [], ◌∷◌, if◌then◌else◌, ◌==◌}
-use Rattle.ipc_words.specs.Limits.{max_line_bytes}
 
 -- a byte before the first line
 abbrev pub before_first : ℕ → List (List ℕ) → List (List ℕ)
@@ -12,7 +11,3 @@ abbrev pub lines_of : List ℕ → List (List ℕ)
 lines_of [] = []
 lines_of (byte ∷ bytes) =
     (if byte == 10 then [] ∷ lines_of bytes else before_first byte (lines_of bytes))
-
--- the most bytes of a line, without its newline
-abbrev pub longest_line : ℕ
-longest_line = max_line_bytes

@@ -4,7 +4,8 @@ use Rattle.std.specs.Prelude.{◌≡◌, ℕ, ◌+◌, ◌<◌, ◌≤◌, List,
 use Rattle.std.specs.Prelude.{IfSome, length, ◌⊎◌}
 use Rattle.std.specs.Io.KnownBytes.{Appends}
 use Rattle.ipc_base.specs.Ports.{AppendsFront}
-use Rattle.ipc_shell.specs.ScriptLines.{lines_of, longest_line}
+use Rattle.ipc_words.specs.Limits.{max_line_bytes}
+use Rattle.ipc_shell.specs.ScriptLines.{lines_of}
 use Rattle.ipc_shell.specs.declared.exit.Exit.{Exit}
 use Rattle.ipc_shell.specs.declared.exit.Exit.TheVariants.{Done, BadLine, NoMemory, DeviceFailed}
 
@@ -13,7 +14,7 @@ abbrev pub ObeysLine : {S : Type 0} → (S → List ℕ → List ℕ → S → T
     → S → List ℕ → List ℕ → S → Type 0
 ObeysLine Obeys old [] text new = (text ≡ []) × (new ≡ old)
 ObeysLine Obeys old (byte ∷ bytes) text new =
-    (length (byte ∷ bytes) ≤ longest_line) × Obeys old (byte ∷ bytes) text new
+    (length (byte ∷ bytes) ≤ max_line_bytes) × Obeys old (byte ∷ bytes) text new
 
 -- lines, one after the other, and what is printed for them
 abbrev pub ObeysLines : {S : Type 0} → (S → List ℕ → List ℕ → S → Type 0)
@@ -25,7 +26,7 @@ ObeysLines {S} Obeys old (line ∷ lines) text new = (between : S)
 
 -- a line is bad in a state where it is too long, or is not empty and no command there
 abbrev pub IsBadLine : {S : Type 0} → (S → List ℕ → Type 0) → S → List ℕ → Type 0
-IsBadLine IsNone state line = (longest_line < length line) ⊎ ((0 < length line) × IsNone state line)
+IsBadLine IsNone state line = (max_line_bytes < length line) ⊎ ((0 < length line) × IsNone state line)
 
 -- a bad line ends the run: what is printed is that of the lines before it, whose number is counted
 -- from 1, empty lines too

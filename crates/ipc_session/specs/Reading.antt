@@ -1,7 +1,7 @@
 -- What a reader did with the bytes that it read, and how it ends by them.
 use Rattle.std.specs.Prelude.{◌≡◌, ◌<◌, ◌⊎◌, ℕ, List, [], ◌∷◌, ◌++◌, map, Option, Result, Ok, Err}
 use Rattle.std.specs.Io.KnownBytes.{IsAtEnd}
-use Rattle.ipc_base.specs.Ports.{Gives, Input}
+use Rattle.ipc_base.specs.Ports.{Gives, Input, input_of}
 use Rattle.ipc_frame.specs.Stream.{End, Rest, Stopped, Stream, put_front, stream_of}
 use Rattle.ipc_frame.specs.declared.fault.FrameFault.{FrameFault}
 use Rattle.ipc_frame.specs.declared.fault.FrameFault.TheVariants.{Unfinished}
@@ -113,22 +113,35 @@ Leaves (On stage) old new bytes input decoder =
     (left : List ℕ) × HasServed old new Greeting bytes left stage [] × Holds decoder left
 Leaves (Over ending) old new bytes input decoder = EndsSo ending old new bytes input []
 
--- what a reader has read and served from a beginning on, one more read included. That read ends it
--- for a failure of the device, at the end of the input, or by what it heard
-pub record HasRead (start input : Input) (old new : Log) (decoder : Decoding)
-    (failures failures_now : ℕ) (turned : Turned) : Type 0 where
+-- a reader: what is known of its input, the calls of its kernel port, what its decoder holds, and
+-- how often its device has failed
+pub record ReaderParts : Type 0 where
+  pub input : Input
+  pub log : Log
+  pub decoder : Decoding
+  pub failures : ℕ
+
+-- by the bytes that came, those that are left, and so on
+abbrev pub reader_of : Option (List ℕ) → Option (List ℕ) → Log → Decoding → ℕ → ReaderParts
+reader_of came left log decoder failures =
+    record { input = input_of came left; log = log; decoder = decoder; failures = failures }
+
+-- what a reader has read and served from a beginning on, one more read included, before which its
+-- device had failed so often. That read ends it for a failure of the device, at the end of the
+-- input, or by what it heard
+pub record HasRead (start : Input) (first : Log) (failures : ℕ) (reader : ReaderParts) (turned : Turned) : Type 0 where
   pub bytes : List ℕ
-  pub gave : Gives start input bytes
-  pub leaves : Leaves turned old new bytes input.left decoder
-  pub device : turned ≡ Over Device → failures < failures_now
-  pub kept : (stage : Stage) → turned ≡ On stage → failures_now ≡ failures
-  pub ended : turned ≡ Over EndOfInput → IsAtEnd input.left
+  pub gave : Gives start reader.input bytes
+  pub leaves : Leaves turned first reader.log bytes reader.input.left reader.decoder
+  pub device : turned ≡ Over Device → failures < reader.failures
+  pub kept : (stage : Stage) → turned ≡ On stage → reader.failures ≡ failures
+  pub ended : turned ≡ Over EndOfInput → IsAtEnd reader.input.left
   pub not_stopped : turned ≡ Over Halted → ⊥
 
 -- one read, whatever was read and served before it
-abbrev pub ReadsOn : Input → Input → Log → Log → Decoding → Decoding → ℕ → ℕ → Stage → Turned → Type 0
-ReadsOn input input_now log log_now decoder decoder_now failures failures_now stage turned =
+abbrev pub ReadsOn : ReaderParts → ReaderParts → Stage → Turned → Type 0
+ReadsOn before after stage turned =
     (start : Input) → (first : Log) → (bytes left : List ℕ)
-    → Gives start input bytes → Holds decoder left
-    → HasServed first log Greeting bytes left stage []
-    → HasRead start input_now first log_now decoder_now failures failures_now turned
+    → Gives start before.input bytes → Holds before.decoder left
+    → HasServed first before.log Greeting bytes left stage []
+    → HasRead start first before.failures after turned

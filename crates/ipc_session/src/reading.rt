@@ -3,7 +3,7 @@ ghost use Rattle.std.specs.Io.KnownBytes.{IsAtEnd};
 ghost use Rattle.ipc_base.specs.Ports.{Gives, input_of};
 ghost use Rattle.ipc_connection.specs.Taking.{Holds};
 ghost use Rattle.ipc_connection.specs.KernelCalls.{Breaks};
-ghost use Rattle.ipc_session.specs.Reading.{EndsSo, HasServed, Log, ReadsOn, ServesPiece};
+ghost use Rattle.ipc_session.specs.Reading.{EndsSo, HasServed, Log, ReadsOn, ServesPiece, reader_of};
 ghost use Rattle.ipc_connection.specs.declared.stage.Stage.TheVariants as at_stage;
 
 use crate::buffers::{LONG, SHORT};
@@ -115,10 +115,12 @@ fn read_next<P: PortRead, K: KernelPort, B: Blocks>(
     blocks: &mut B,
 ) -> (Turned, bool)
     requires { stage ≢ Stage.Finished }
-    ensures { ReadsOn (input_of (P.came port.old) (P.remaining port.old))
-        (input_of (P.came port.new) (P.remaining port.new))
-        (K.log kernel_port.old) (K.log kernel_port.new) decoder.old decoder.new
-        (P.failures port.old) (P.failures port.new) stage result.0 }
+    ensures { ReadsOn
+        (reader_of (P.came port.old) (P.remaining port.old) (K.log kernel_port.old) decoder.old
+        (P.failures port.old))
+        (reader_of (P.came port.new) (P.remaining port.new) (K.log kernel_port.new) decoder.new
+        (P.failures port.new))
+        stage result.0 }
 {
     match decoder.read_on(port) {
         None => read_piece(port, kernel_port, decoder, stage, is_long, short, blocks),
@@ -140,10 +142,12 @@ fn read_piece<P: PortRead, K: KernelPort, B: Blocks>(
     blocks: &mut B,
 ) -> (Turned, bool)
     requires { stage ≢ Stage.Finished }
-    ensures { ReadsOn (input_of (P.came port.old) (P.remaining port.old))
-        (input_of (P.came port.new) (P.remaining port.new))
-        (K.log kernel_port.old) (K.log kernel_port.new) decoder.old decoder.new
-        (P.failures port.old) (P.failures port.new) stage result.0 }
+    ensures { ReadsOn
+        (reader_of (P.came port.old) (P.remaining port.old) (K.log kernel_port.old) decoder.old
+        (P.failures port.old))
+        (reader_of (P.came port.new) (P.remaining port.new) (K.log kernel_port.new) decoder.new
+        (P.failures port.new))
+        stage result.0 }
 {
     if is_long {
         read_long(port, kernel_port, decoder, stage, blocks)
@@ -163,10 +167,12 @@ fn read_long<P: PortRead, K: KernelPort, B: Blocks>(
     blocks: &mut B,
 ) -> (Turned, bool)
     requires { stage ≢ Stage.Finished }
-    ensures { ReadsOn (input_of (P.came port.old) (P.remaining port.old))
-        (input_of (P.came port.new) (P.remaining port.new))
-        (K.log kernel_port.old) (K.log kernel_port.new) decoder.old decoder.new
-        (P.failures port.old) (P.failures port.new) stage result.0 }
+    ensures { ReadsOn
+        (reader_of (P.came port.old) (P.remaining port.old) (K.log kernel_port.old) decoder.old
+        (P.failures port.old))
+        (reader_of (P.came port.new) (P.remaining port.new) (K.log kernel_port.new) decoder.new
+        (P.failures port.new))
+        stage result.0 }
 {
     read_turn(port, kernel_port, decoder, stage, &mut [0u8; LONG], blocks)
 }
@@ -183,10 +189,12 @@ fn read_turn<P: PortRead, K: KernelPort, B: Blocks>(
 ) -> (Turned, bool)
     requires goes_on { stage ≢ Stage.Finished }
     requires some { 0 < length buffer.old }
-    ensures { ReadsOn (input_of (P.came port.old) (P.remaining port.old))
-        (input_of (P.came port.new) (P.remaining port.new))
-        (K.log kernel_port.old) (K.log kernel_port.new) decoder.old decoder.new
-        (P.failures port.old) (P.failures port.new) stage result.0 }
+    ensures { ReadsOn
+        (reader_of (P.came port.old) (P.remaining port.old) (K.log kernel_port.old) decoder.old
+        (P.failures port.old))
+        (reader_of (P.came port.new) (P.remaining port.new) (K.log kernel_port.new) decoder.new
+        (P.failures port.new))
+        stage result.0 }
 {
     let count = match port.read(buffer) {
         Ok(count) => count,

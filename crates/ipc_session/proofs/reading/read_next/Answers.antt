@@ -7,7 +7,7 @@ use Rattle.ipc_connection.specs.Taking.{Decoding, Holds}
 use Rattle.ipc_connection.specs.declared.stage.Stage.{Stage}
 use Rattle.ipc_session.proofs.ReadLemmas.{begin, leaves_piece, on_not_over, over_is, over_not_on, stop}
 use Rattle.ipc_session.proofs.TakeLemmas.{took_none}
-use Rattle.ipc_session.specs.Reading.{HasRead, Log, ServesPiece}
+use Rattle.ipc_session.specs.Reading.{HasRead, Log, ServesPiece, reader_of}
 use Rattle.ipc_session.specs.declared.turned.Turned.TheVariants.{On}
 use Rattle.ipc_session.proofs.reading.read_next.Goals as goal
 
@@ -60,5 +60,6 @@ returns-in-None g c = λ start first bytes left gave holds served.
     let fails = c.in-None.ensures.fails in
     let gave_so = subst (λ (i : Input). Gives start i bytes) (sym fails.0) gave in
     let holds_so = subst (λ (d : Decoding). Holds d left) (sym same) holds in
-    subst (λ failures. HasRead start (input_of (g.P.PortRead.came c.read_piece.new.port) (g.P.PortRead.remaining c.read_piece.new.port)) first (g.K.KernelPort.log c.read_piece.new.kernel_port) c.read_piece.new.decoder failures (g.P.PortRead.failures c.read_piece.new.port) c.read_piece.result.0) fails.1
+    let reader = reader_of (g.P.PortRead.came c.read_piece.new.port) (g.P.PortRead.remaining c.read_piece.new.port) (g.K.KernelPort.log c.read_piece.new.kernel_port) c.read_piece.new.decoder (g.P.PortRead.failures c.read_piece.new.port) in
+    subst (λ (failures : ℕ). HasRead start first failures reader c.read_piece.result.0) fails.1
     (c.read_piece.ensures start first bytes left gave_so holds_so served)

@@ -6,6 +6,7 @@ use Rattle.std.proofs.lemmas.List.Folds.{list_any-append}
 use Rattle.std.specs.Option.{option_to_list}
 use Rattle.std.proofs.Common.{◌≡◌, refl, sym, ap, ap₂, ◌∙◌, subst, ℕ, ◌+◌, ◌<◌, get_or, length, take, Bool, true, false, not, ◌&&◌, ◌||◌, ◌==◌, eq-eqb, eqb-true, if◌then◌else◌, List, [], ◌∷◌, ◌++◌, Option, Some, None, filter, filter_map, map, is_some, inl, inr, arith}
 use Rattle.std.specs.List.{cons_option, list_any}
+use Rattle.std.proofs.lemmas.Option.{same_Some}
 use Rattle.ipc_words.specs.Limits.{table_slots}
 use Rattle.ipc_history.specs.CallParts.{CallParts}
 use Rattle.ipc_history.specs.Calls.{caller_of, calls_made, is_called, last_call, numbers}
@@ -73,9 +74,6 @@ filter_same p q (x ∷ xs) same = ap₂ (λ (b : Bool) (l : List ℕ). if b then
 
     second : (a b : Bool) → b ≡ true → (a || b) ≡ true
     second a b h = grind arith
-
-some_same : {a b : ℕ} → Some a ≡ Some b → a ≡ b
-some_same h = cc
 
 -- the thread of the entry that enters a call
 by_here : (H : List Entry) → Legal H → (n t : ℕ) (call : CallParts) → Place H (Given (Called n t call)) → caller_of H n ≡ t
@@ -205,7 +203,7 @@ module _ (H : List Entry) (legal : Legal H) (before now_taken taken : List ℕ) 
           elim (may.others m (kept_called H taken m one.1)) [
             | inr took ↦ true≢false (sym is ∙ not_kept H taken m (may.over m took) took)
             | inl its ↦ (
-                let same : m ≡ n = some_same (sym its ∙ (ap (last_call H) one.2 ∙ last)) in
+                let same : m ≡ n = same_Some _ _ (sym its ∙ (ap (last_call H) one.2 ∙ last)) in
                 true≢false (sym is ∙ (ap (is_kept_call H taken) same ∙ not_kept H taken n ended among)))
           ])
 

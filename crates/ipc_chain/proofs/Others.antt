@@ -2,6 +2,7 @@
 use Rattle.std.proofs.lemmas.Bool.{false≢true}
 use Rattle.std.proofs.Common.{◌≡◌, refl, sym, ap, ◌∙◌, subst, ℕ, Bool, true, false, not, ◌==◌, eq-eqb, eqb-true, if◌then◌else◌, List, [], ◌∷◌, ◌++◌, Option, Some, None, ◌⊎◌, inl, inr, arith}
 use Rattle.std.specs.Option.{option_map_or, option_or}
+use Rattle.std.proofs.lemmas.Option.{same_Some}
 use Rattle.ipc_history.specs.CallParts.{CallParts}
 use Rattle.ipc_history.specs.Calls.{caller_of, is_called, last_call}
 use Rattle.ipc_history.specs.Entries.{calls, number_by}
@@ -21,9 +22,6 @@ use Rattle.ipc_desks.proofs.LastCalls.{last_is, last_push, new_call_at}
 use Rattle.ipc_compact.specs.Kept.{TookOthers}
 use Rattle.ipc_core.specs.CourseParts.{ComesIdle}
 use Rattle.ipc_chain.specs.Judging.{IsSure, TakesLast, TakesSure}
-
-some_same : {a b : ℕ} → Some a ≡ Some b → a ≡ b
-some_same h = cc
 
 -- the last call of an idle thread was taken
 idle_taken : (H : List Entry) (taken : List ℕ) (t n : ℕ) → is_busy H taken t ≡ false → last_call H t ≡ Some n → is_among n taken ≡ true
@@ -50,7 +48,7 @@ module _ (H : List Entry) (legal : Legal H) where
       go (Given (Called k caller call)) follows last = at (caller == t) last
         where
           at : (b : Bool) → option_or (if b then Some k else None) (last_call H t) ≡ Some n → last_call H t ≡ Some n
-          at true is = absurd (old_call k caller n call follows called (some_same is))
+          at true is = absurd (old_call k caller n call follows called (same_Some _ _ is))
           at false is = is
       go (Given (At moment)) follows last = last
       go (Given (Opened thread space)) follows last = last
@@ -137,7 +135,7 @@ module _ (H : List Entry) (legal : Legal H) where
         let is = last_is H legal t n last in
         elim (others n (is_called_kept H (Given (Called k t call) ∷ []) n is.1)) [
           | inr among ↦ among
-          | inl still ↦ absurd (old_call k t n call follows is.1 (some_same (sym pushed ∙ (ap (last_call (H ++ Given (Called k t call) ∷ [])) (sym (caller_of_kept H (Given (Called k t call) ∷ []) n is.1 ∙ is.0)) ∙ still))))
+          | inl still ↦ absurd (old_call k t n call follows is.1 (same_Some _ _ (sym pushed ∙ (ap (last_call (H ++ Given (Called k t call) ∷ [])) (sym (caller_of_kept H (Given (Called k t call) ∷ []) n is.1 ∙ is.0)) ∙ still))))
         ]
       where
         pushed : last_call (H ++ Given (Called k t call) ∷ []) t ≡ Some k

@@ -1,7 +1,7 @@
 -- What is taken of a history where it is judged.
 use Rattle.std.proofs.lemmas.Bool.{true≢false, cases_eq}
 use Rattle.std.proofs.lemmas.List.Folds.{list_any-append}
-use Rattle.std.proofs.lemmas.Option.{none-some}
+use Rattle.std.proofs.lemmas.Option.{none-some, same_Some}
 use Rattle.std.proofs.Common.{◌≡◌, refl, sym, ap, ◌∙◌, subst, ℕ, ◌+◌, ◌<◌, Bool, true, false, not, ◌||◌, ◌==◌, eq-eqb, eqb-true, if◌then◌else◌, option_and_then, List, [], ◌∷◌, ◌++◌, Some, None, ◌⊎◌, inl, inr, arith}
 use Rattle.ipc_words.specs.ThreadId.{number_of}
 use Rattle.ipc_history.specs.Calls.{caller_of, last_call}
@@ -18,9 +18,6 @@ use Rattle.ipc_desks.specs.CallsOf.{outcome_to_take, untaken_outcome}
 use Rattle.ipc_desks.proofs.LastCalls.{last_is}
 use Rattle.ipc_core.proofs.BusyLaws.{still_among}
 use Rattle.ipc_chain.specs.Judging.{TakesBelow, TakesLast}
-
-some_same : {a b : ℕ} → Some a ≡ Some b → a ≡ b
-some_same h = cc
 
 one_more : (taken : List ℕ) (k n : ℕ) → is_among n (taken ++ k ∷ []) ≡ true → (is_among n taken ≡ true) ⊎ (k ≡ n)
 one_more taken k n h = go (is_among n taken) refl
@@ -44,7 +41,7 @@ module _ (H : List Entry) (t : ℕ) (old : List ℕ) where
   takes_one o new last is = record {
     more = λ n among. ap (is_among n) is ∙ still_among n old (o.call ∷ []) among;
     only = λ n among. elim (one_more old o.call n (ap (is_among n) (sym is) ∙ among)) [ inl was ↦ inl was | inr same ↦ inr (last ∙ ap (λ k. Some k) same) ];
-    all = λ n at over. ap (is_among n) is ∙ subst (λ k. is_among n (old ++ k ∷ []) ≡ true) (some_same (sym at ∙ last)) (this_one old n);
+    all = λ n at over. ap (is_among n) is ∙ subst (λ k. is_among n (old ++ k ∷ []) ≡ true) (same_Some _ _ (sym at ∙ last)) (this_one old n);
   }
 
   -- there was none to take
@@ -93,7 +90,7 @@ module _ (H : List Entry) (callers : List ℕ) (place : ℕ) (before old : List 
       )
     ];
     all = λ t n live low apart last over. elim (cases_eq (number_of t) place) [
-      | inl same ↦ takes.all n (subst (λ s. last_call H s ≡ Some n) (some_same (sym (subst (λ k. live_of H k ≡ Some t) same (live_of_at H legal t live)) ∙ sym is)) last) over
+      | inl same ↦ takes.all n (subst (λ s. last_call H s ≡ Some n) (same_Some _ _ (sym (subst (λ k. live_of H k ≡ Some t) same (live_of_at H legal t live)) ∙ sym is)) last) over
       | inr other ↦ takes.more n (was.all t n live (omega (arith, low, other)) apart last over)
     ];
   }
@@ -113,7 +110,7 @@ pub below_apart : (H : List Entry) (callers : List ℕ) (place : ℕ) (before ol
 below_apart H callers place before old new thread legal is skipped takes was = go (is_among thread callers) refl
   where
     go : (b : Bool) → is_among thread callers ≡ b → TakesBelow H callers (place + 1) before new
-    go true among = below_none H callers place before old was new legal (skipped among) (λ t live. subst (λ s. is_among s callers ≡ true) (some_same (is ∙ live)) among)
+    go true among = below_none H callers place before old was new legal (skipped among) (λ t live. subst (λ s. is_among s callers ≡ true) (same_Some _ _ (is ∙ live)) among)
     go false apart = below_one H callers place before old was new thread legal is apart (takes apart)
 
 -- a number without a live thread

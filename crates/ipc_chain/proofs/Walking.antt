@@ -1,5 +1,5 @@
 -- A history that is judged entry by entry, and a chain of parts behind it.
-use Rattle.std.proofs.Common.{◌≡◌, refl, sym, ap, ◌∙◌, subst, ℕ, ◌<◌, List, [], ◌∷◌, ◌++◌, append_assoc, append-nil, get_or, length, length-append, take, Option, Some, None, IfSome, inl, inr, arith}
+use Rattle.std.proofs.Common.{◌≡◌, refl, sym, ap, ◌∙◌, subst, ℕ, ◌<◌, List, [], ◌∷◌, ◌++◌, append_assoc, append-nil, get_or, length, length-append, take, Option, inl, inr, arith}
 use Rattle.std.proofs.lemmas.Bool.{false≢true}
 use Rattle.ipc_history.specs.Legal.{Follows, Legal, Quiet}
 use Rattle.ipc_history.specs.NextOutput.{next_output}
@@ -165,11 +165,6 @@ first_fault start now X done rest e i expected whole place legal walks refused t
     let front = stands_front X done rest e i whole place in
     let same : now.past ≡ start.past ++ take i X = walks.past ∙ ap (λ l. start.past ++ l) (sym front) in
     fault_after start.past [] X now.past i e (stands_within X done rest e i whole place) (stands_at X done rest e i whole place) same expected (subst Legal same legal) refused told
-
--- Of what an Option holds
-pub some_more : {X : Type 0} (o : Option X) (P Q : X → Type 0) → ((x : X) → P x → Q x) → IfSome o P → IfSome o Q
-some_more None P Q leads p = p
-some_more (Some x) P Q leads p = leads x p
 
 -- the entries of the first file follow: a chain of all files is one behind them
 module _ (start mid : ChainParts) (entries : List Entry) (past : start.past ≡ []) (none : start.taken ≡ []) (untold : start.told ≡ 0) (walks : Walks start mid entries) (parts : List PartParts) where

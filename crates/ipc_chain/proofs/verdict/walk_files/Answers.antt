@@ -1,9 +1,10 @@
 use Rattle.std.proofs.Common.{◌≡◌, ◌∙◌, ◌++◌, map, subst, sym}
 use Rattle.ipc_history.specs.Legal.{Legal}
 use Rattle.ipc_check.proofs.After.{fault_all}
+use Rattle.ipc_lines.proofs.Options.{IfSome-weaker}
 use Rattle.ipc_chain.specs.Chains.{parts_of}
 use Rattle.ipc_chain.specs.declared.verdict.ChainVerdict.TheVariants.{NoEntry, Yes}
-use Rattle.ipc_chain.proofs.Walking.{chain_legal, first_back, first_on, some_more}
+use Rattle.ipc_chain.proofs.Walking.{chain_legal, first_back, first_on}
 use Rattle.ipc_chain.proofs.verdict.walk_files.Goals as goal
 
 pub returns-in-Some-clause-no : goal.returns-in-Some-clause-no
@@ -24,4 +25,4 @@ returns-in_ok-verdict-in-None-clause-on c = λ none rest.
 pub returns-in_ok-verdict-in-None-clause-no : goal.returns-in_ok-verdict-in-None-clause-no
 returns-in_ok-verdict-in-None-clause-no c =
     let walks = c.in_ok-fault.ensures.on c.in-None.is in
-    some_more c.in_ok-verdict-in-None.verdict _ _ (λ v no. (no.0, λ rest chain. no.1 rest (first_on c.args.chain.now c.walk.new.chain c.args.entries.items c.requires.past c.requires.taken c.requires.told walks (map parts_of c.args.parts.items ++ rest) chain))) c.in_ok-verdict-in-None.ensures.no
+    IfSome-weaker c.in_ok-verdict-in-None.verdict _ _ (λ v no. (no.0, λ rest chain. no.1 rest (first_on c.args.chain.now c.walk.new.chain c.args.entries.items c.requires.past c.requires.taken c.requires.told walks (map parts_of c.args.parts.items ++ rest) chain))) c.in_ok-verdict-in-None.ensures.no

@@ -1,7 +1,8 @@
 -- The lines of thread numbers, and the lists of numbers that they fill.
-use Rattle.std.proofs.Common.{◌≡◌, ℕ, zero, suc, ◌+◌, ◌-◌, ◌≤◌, Bool, true, false, List, [], ◌∷◌, ◌++◌, length, replicate, refl, sym, ap, ◌∙◌, arith, append_assoc, append-nil, length-append}
+use Rattle.std.proofs.Common.{◌≡◌, ℕ, zero, suc, ◌+◌, ◌-◌, ◌≤◌, true, false, List, [], ◌∷◌, ◌++◌, length, replicate, refl, sym, ap, ◌∙◌, arith, append_assoc, append-nil, length-append}
 use Rattle.std.specs.Prelude.{◌==◌, ◌&&◌, not}
 use Rattle.std.proofs.lemmas.List.{length-replicate, replicate_more, take_all}
+use Rattle.std.proofs.lemmas.Bool.{not-true}
 use Rattle.ipc_trace.specs.Parts.{number_line, number_lines}
 use Rattle.ipc_trace.specs.Steps.{filled}
 use Rattle.ipc_trace.specs.declared.line.PartLine.{PartLine}
@@ -61,13 +62,9 @@ numbers_filled place vs ds same within =
     ∙ ap (λ (l : List PartLine). number_lines 0 vs ds ++ l) (numbers_none (0 + length vs) (place - length vs))
     ∙ append-nil (number_lines 0 vs ds)
 
-false_of_not : (b : Bool) → not b ≡ true → b ≡ false
-false_of_not true h = sym h
-false_of_not false h = refl
-
 -- a number whose line says something
 pub number_said : (k v d : ℕ) → not ((v == 0) && (d == 0)) ≡ true → number_line k v d ≡ line.Number k v d ∷ []
-number_said k v d said = let no : ((v == 0) && (d == 0)) ≡ false = false_of_not ((v == 0) && (d == 0)) said in rw no
+number_said k v d said = let no : ((v == 0) && (d == 0)) ≡ false = not-true ((v == 0) && (d == 0)) said in rw no
 
 -- one number more
 pub numbers_more : (vs ds : List ℕ) (k v d : ℕ) → length vs ≡ length ds → length vs ≤ k → not ((v == 0) && (d == 0)) ≡ true

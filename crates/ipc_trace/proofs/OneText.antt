@@ -4,7 +4,7 @@ use Rattle.std.specs.Prelude.{◌==◌, ◌&&◌}
 use Rattle.std.specs.Fmt.{decimal}
 use Rattle.std.specs.List.{All, list_all}
 use Rattle.std.specs.Prelude.{not}
-use Rattle.std.proofs.lemmas.Bool.{and_parts, eqb-false}
+use Rattle.std.proofs.lemmas.Bool.{and_parts, eqb-false, not-true}
 use Rattle.std.proofs.lemmas.List.Elements.{All-append, All-cons, All-head, All-nil, All-tail}
 use Rattle.std.specs.Io.KnownBytes.{Consumes, IsAtEnd}
 use Rattle.ipc_words.specs.Limits.{table_slots}
@@ -32,15 +32,11 @@ is_other byte = byte ≢ 10
 abbrev has_none : List ℕ → Bool
 has_none text = list_all (λ byte. not (byte == 10)) text
 
-not_false : (b : Bool) → not b ≡ true → b ≡ false
-not_false true h = sym h
-not_false false h = refl
-
 plain : (text : List ℕ) → has_none text ≡ true → IsOneLine text
 plain [] h = All-nil is_other
 plain (b ∷ bs) h =
     let parts = and_parts (not (b == 10)) (has_none bs) h in
-    All-cons is_other b bs (eqb-false b 10 (not_false (b == 10) parts.0)) (plain bs parts.1)
+    All-cons is_other b bs (eqb-false b 10 (not-true (b == 10) parts.0)) (plain bs parts.1)
 
 counted_line : (word : List ℕ) (n : ℕ) → has_none word ≡ true → IsOneLine (word ++ decimal n)
 counted_line word n h = All-append is_other word (decimal n) (plain word h) (decimal_lacks 10 (omega arith) n)

@@ -242,6 +242,9 @@ def refusals(place):
             others = {name: value for name, value in os.environ.items() if name != "SOURCE_DATE_EPOCH"}
             refused = run(f"{bare}/packaging/deb", f"{bare}/to", env={**others, **more})
             assert not shutil.which("dpkg-deb") or refused.returncode == 1 and told in refused.stderr and "Traceback" not in refused.stderr, refused
+            assert not os.path.exists(f"{bare}/to"), "a refused tree leaves a folder"
+        helped = run(f"{bare}/packaging/deb", "--help")
+        assert helped.returncode == 0 and "makes Debian packages" in helped.stdout, helped
     refused = run(f"{ROOT}/install", env={**os.environ, "DESTDIR": place, "PREFIX": "usr"})
     assert refused.returncode == 2 and "PREFIX" in refused.stderr, refused
     refused = installed(place, "--remove")

@@ -139,6 +139,10 @@ def check_names_again(programs, l4d, room, start):
                 assert call()[4] == "1,2"
                 longest = max(longest, time.time() - before)
             assert 0.2 < longest < 3, f"a call took {longest} seconds beside a name server that is stopped"
+            for _ in range(2):
+                began = time.time()
+                assert asker.ask("lookup_wait 1000000 pingpong")[2] == "N7: no live thread has the name (pingpong)"
+                assert 0.9 < time.time() - began < 2, f"a look up of 1 second took {time.time() - began} beside a name server that is stopped"
             os.kill(process.pid, signal.SIGCONT)
             assert asker.ask("lookup pingpong")[0] == f"{thread_id(2):x}"
             assert call()[4] == "1,2"

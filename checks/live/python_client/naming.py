@@ -1,9 +1,12 @@
 """Names: servers and name servers that restart, bad names, and names of who propagates."""
 
+import asyncio
+import os
+import signal
 import time
 
 from python_client.package import name_server
-from python_client.seeing import Message, beside, check, end, l4ipc, names, output, raised, same, told
+from python_client.seeing import Message, Server, aio, beside, check, end, l4ipc, names, output, raised, same, told
 
 
 def server_restarts(server):
@@ -118,6 +121,58 @@ def wait_until_listed(thread, count):
         if len(names.Names(thread).list()) == count:
             return
         time.sleep(0.002)
+
+
+def stopped_names(l4d, l4x):
+    """A name server that is live and does not answer: each wait keeps its limit, and says who did not answer."""
+    server = Server(l4d)
+    process = name_server(server, l4x, 1)
+    kv, first, second = (l4ipc.Thread(server.folder, number, wait_for=10) for number in (1, 2, 3))
+    names.register(kv, "kv")
+    os.kill(process.pid, signal.SIGSTOP)
+    # (it has taken the request of the first thread, so its receive phase is what fails; of the second one the send phase)
+    for thread in (first, second):
+        asked, hasty = names.Names(thread), names.Names(thread, timeout=0.2)
+        in_time(f"{thread.id}: wait_for", 1, lambda: asked.wait_for("kv", 1), l4ipc.NameTimeout, "the name server 255.1 does not answer; waited for kv for 1 second")
+        in_time(f"{thread.id}: wait_for, of short tries", 1, lambda: hasty.wait_for("kv", 1), l4ipc.NameTimeout, "255.1 does not answer")
+        in_time(f"{thread.id}: wait_to_register", 1, lambda: asked.wait_to_register("more", 1), l4ipc.NameTimeout, "255.1 does not answer")
+        text = "to 255.1: timeout (error 0x2): the name server did not answer who has the name kv{}; nothing was delivered"
+        in_time(f"{thread.id}: a call", 1, lambda: thread.call("kv", wait_for=1), l4ipc.Timeout, text.format(", after waiting for 1 second"))
+        in_time(f"{thread.id}: a send", 1, lambda: thread.send("kv", wait_for=1), l4ipc.Timeout, text.format(", after waiting for 1 second"))
+    in_time("a call that does not wait", 2, lambda: second.call("kv"), l4ipc.Timeout, text.format(""))
+    in_time("aio: wait_for", 1, lambda: asyncio.run(waits_for(server.folder)), l4ipc.NameTimeout, "the name server 255.1 does not answer; waited for kv for 1 second")
+    # more clients at once, which wait longer than it is stopped
+    serves = beside(lambda: kv.serve(lambda request: Message(0, [42]), tell=lambda *_: None))
+    asks = beside(lambda: asyncio.run(calls_of(server.folder, range(10, 30))))
+    time.sleep(5)
+    os.kill(process.pid, signal.SIGCONT)
+    same("calls that outlast a name server that is stopped", asks(30), [(42,)] * 20)
+    same("its name is found", names.Names(second, timeout=2).wait_for("kv", 2), kv.id)
+    server.stop()
+    serves(10)
+    for thread in (kv, first, second):
+        thread.close()
+
+
+async def waits_for(folder):
+    async with aio.Thread(folder, 4, wait_for=10) as thread:
+        return await aio.Names(thread).wait_for("kv", 1)
+
+
+async def calls_of(folder, numbers):
+    """What clients are answered that call a name at once."""
+    async def one(number):
+        async with aio.Thread(folder, number, wait_for=10) as thread:
+            return (await thread.call("kv", Message(8), wait_for=30)).words
+    return await asyncio.gather(*map(one, numbers), return_exceptions=True)
+
+
+def in_time(what, seconds, does, kind, text):
+    """It fails so, after so many seconds, and not much later."""
+    began, answer = time.monotonic(), beside(does)(20)
+    took = time.monotonic() - began
+    check(f"{what}, stopped: its error", isinstance(answer, kind) and text in str(answer), repr(answer))
+    check(f"{what}, stopped: its time", seconds - 0.1 < took < seconds + 1, took)
 
 
 def looked_up(server, l4x, name):

@@ -22,6 +22,8 @@ enum {
 	KEPT_FOR = 5000000,
 	AGAIN_AFTER = 1000000,
 	KEEPING = 250000,
+	/* and how long each phase of a look up may take at least, however little is left of a wait */
+	LEAST_TRY = 100000,
 	/* ErrorCode of a send to, and of a receive from, a thread that is not live */
 	NOBODY_TO_SEND_TO = E_NON_EXISTING_PARTNER << 1,
 	NOBODY_TO_RECEIVE_FROM = E_NON_EXISTING_PARTNER << 1 | 1,
@@ -148,10 +150,17 @@ static int ask(enum label label, const char *name, L4_Time_t patience, struct an
 	return status;
 }
 
+/* Whether the name server did not answer in time. */
+static bool is_timeout(const struct failure *failure)
+{
+	return failure->source == OUTCOME && (failure->code >> 1 & 7) == E_TIMEOUT;
+}
+
 /* Whether a name may be found later, as it was not now. */
 static bool is_not_there_yet(const struct failure *failure)
 {
-	return failure->class == 'N' && (failure->number == N_NO_NAME_SERVER || failure->number == N_NOBODY_HAS_NAME);
+	return is_timeout(failure)
+	       || (failure->class == 'N' && (failure->number == N_NO_NAME_SERVER || failure->number == N_NOBODY_HAS_NAME));
 }
 
 /* Keeps a name that was registered. */
@@ -203,26 +212,43 @@ int l4_keep_names(struct thread *thread)
 	return -1;
 }
 
+static L4_ThreadId_t look_up(const char *name, L4_Time_t patience)
+{
+	struct answer answer = { 0 };
+
+	if (ask(LOOK_UP, name, patience, &answer) < 0)
+		return L4_nilthread;
+	if (L4_IsNilThread(answer.thread))
+		(void) l4_refuse(&l4_thread, FOUND_HERE, 'N', N_NOBODY_HAS_NAME);
+	return answer.thread;
+}
+
+/* How long each phase of a request may take, so that both together end by this moment. */
+static L4_Time_t half_until(int64_t until)
+{
+	L4_Word64_t left = l4_microseconds(l4_time_until(until));
+
+	if (until == INT64_MAX)
+		return L4_Never;
+	return L4_TimePeriod(left / 2 > LEAST_TRY ? left / 2 : LEAST_TRY);
+}
+
 L4_ThreadId_t l4_lookup_wait(const char *name, L4_Time_t patience)
 {
 	int64_t until = l4_end_of(patience);
 	L4_ThreadId_t found;
 
 	do
-		found = l4_lookup(name);
+		found = look_up(name, half_until(until));
 	while (L4_IsNilThread(found) && is_not_there_yet(&l4_thread.last) && l4_pause(until));
+	if (L4_IsNilThread(found) && is_timeout(&l4_thread.last))
+		(void) l4_refuse(&l4_thread, FOUND_HERE, 'N', N_NOBODY_HAS_NAME);
 	return found;
 }
 
 L4_ThreadId_t l4_lookup(const char *name)
 {
-	struct answer answer = { 0 };
-
-	if (ask(LOOK_UP, name, L4_Never, &answer) < 0)
-		return L4_nilthread;
-	if (L4_IsNilThread(answer.thread))
-		(void) l4_refuse(&l4_thread, FOUND_HERE, 'N', N_NOBODY_HAS_NAME);
-	return answer.thread;
+	return look_up(name, L4_Never);
 }
 
 int l4_list(const char *after, char name[L4_NAME_BYTES + 1], L4_ThreadId_t *thread)

@@ -4,7 +4,7 @@ import unittest
 import unittest.mock
 
 import l4ipc
-from l4ipc import ThreadId, names
+from l4ipc import ThreadId, names, seconds_of
 
 from .scripted import failed, outcome, said, scripted
 
@@ -101,9 +101,40 @@ class Names(unittest.TestCase):
 
     def test_one_second_is_one(self):
         asked, _ = self.asked(TIMEOUT + 20 * answered())
-        with unittest.mock.patch("l4ipc.names.pauses", lambda *_: iter(())), self.assertRaises(l4ipc.NameTimeout) as caught:
+        with unittest.mock.patch("l4ipc.names.pauses_until", lambda *_: iter(())), self.assertRaises(l4ipc.NameTimeout) as caught:
             asked.wait_for("echo", 1)
         self.assertEqual(str(caught.exception), "nobody has registered echo; waited for echo for 1 second")
+
+    def test_a_name_server_that_does_not_answer(self):
+        unsent = failed(0x2)
+        for wait in ("wait_for", "wait_to_register"):
+            asked, server = self.asked(TIMEOUT + 1000 * unsent)
+            with self.subTest(wait), self.assertRaises(l4ipc.NameTimeout) as caught:
+                getattr(asked, wait)("echo", 1)
+            self.assertEqual(str(caught.exception), "the name server 255.1 does not answer; waited for echo for 1 second")
+            tried = said(server)[2:]
+            self.assertGreater(len(tried), 1)
+            for frame in tried:
+                for half in (frame[21:23], frame[23:25]):
+                    self.assertLessEqual(seconds_of(int.from_bytes(half, "big")) or 9, 0.51)
+
+    def test_a_wait_goes_on_after_a_timeout(self):
+        for does in (lambda it: names.Names(it, timeout=1).wait_for("echo", 5), lambda it: names.Names(it, timeout=1).wait_for("echo")):
+            thread, server = scripted(TIMEOUT + failed(0x2) + failed(0x3) + answered(thread=ECHO))
+            self.open += [thread, server]
+            self.assertEqual(does(thread), ECHO)
+
+    def test_a_call_whose_name_is_not_looked_up(self):
+        for waits, said_so in ((0, ""), (0.5, ", after waiting for 0.5 seconds")):
+            thread, server = scripted(TIMEOUT + 1000 * failed(0x3))
+            self.open += [thread, server]
+            with self.subTest(waits), self.assertRaises(l4ipc.Unanswered) as caught:
+                thread.call("echo", wait_for=waits)
+            self.assertIn(f"to 255.1: timeout (error 0x2): the name server did not answer who has the name echo{said_so}; nothing was delivered",
+                          str(caught.exception))
+            self.assertIsInstance(caught.exception, l4ipc.Timeout)
+            self.assertEqual((caught.exception.name, str(caught.exception.partner), caught.exception.delivered), ("echo", "255.1", False))
+            self.assertEqual(len(said(server)) > 3, waits > 0)
 
     def test_how_long_a_name_server_was_waited_for(self):
         for does in (lambda it: it.call("echo", wait_for=0.02), lambda it: it.send("echo", wait_for=0.02),

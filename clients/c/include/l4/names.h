@@ -19,7 +19,8 @@ int l4_register(const char *name);
 /* The live thread that has the name; L4_nilthread with errno ENOENT where there is none, or as l4_register has it. */
 L4_ThreadId_t l4_lookup(const char *name);
 
-/* The same, asked again for so long as no live thread has the name or there is no name server. */
+/* The same, asked again for so long as no live thread has the name, or there is no name server, or it does not answer: then
+ * ENOENT, too. */
 L4_ThreadId_t l4_lookup_wait(const char *name, L4_Time_t patience);
 
 /* The first name behind `after`, in the order of bytes, and its thread; from "" on, all of them one by one. 1, or 0

@@ -9,7 +9,7 @@ from . import names
 from .errors import Aborted, BadFrame, Cancelled, Closed, Fault, IpcError, L4Error, NoPartner, Overflow, Refused, Timeout
 from .exchanging import Exchanged
 from .message import Buffer, Message, Received
-from .names import NameFault, NameTimeout, NoNames, Unregistered
+from .names import NameFault, NameTimeout, NoNames, Unanswered, Unregistered
 from .serving import FUNCTION_FAILED
 from .thread import Thread
 from .words import ANYLOCALTHREAD, ANYTHREAD, NILTHREAD, ThreadId, period, seconds_of
@@ -39,6 +39,7 @@ __all__ = [
     "Thread",
     "ThreadId",
     "Timeout",
+    "Unanswered",
     "Unregistered",
     "names",
     "period",

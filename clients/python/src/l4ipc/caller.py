@@ -14,7 +14,7 @@ from .steps import Ipc, Steps, until_there
 from .words import NILTHREAD, ThreadId
 
 NAMES_TIMEOUT = 2.0
-"""How many seconds a thread gives the name server for each phase, where it looks a name up for a call."""
+"""How many seconds a thread gives the name server for each phase, where it looks a name up for a call. A call that waits looks up again after it."""
 
 KEEPING_TIMEOUT = 0.25
 """The same where it registers its names again: a name server that is stopped keeps a server from its clients no longer."""

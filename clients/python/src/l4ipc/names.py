@@ -2,14 +2,14 @@
 
 import re
 import time
-from typing import TYPE_CHECKING, Dict, List, Optional, Set, Tuple
+from typing import TYPE_CHECKING, Dict, Iterator, List, Optional, Set, Tuple
 
 from . import arguments, protocol, steps
 from .errors import SEND, Circumstances, IpcError, L4Error, NoPartner, Refused, Timeout
 from .errors import seconds as in_words
 from .message import Buffer, Message, Received
 from .steps import Ipc, Pause, Steps
-from .waiting import pauses
+from .waiting import end_of, left_until, pauses_until
 from .words import NILTHREAD, ThreadId, timeouts
 
 if TYPE_CHECKING:
@@ -33,6 +33,9 @@ KEPT_FOR = 5.0
 
 AGAIN_AFTER = 1.0
 """After how many seconds it tries again where there is no name server."""
+
+LEAST_TRY = 0.1
+"""How many seconds each phase of a request has at least, however few are left of a wait."""
 
 REGISTER, LOOK_UP, LIST = 1, 2, 3
 
@@ -76,7 +79,10 @@ class NoNames(L4Error):
 
 
 class NameTimeout(L4Error, TimeoutError):
-    """`Names.wait_for` has waited as long as it was told to: nobody has registered the name, or there is no name server."""
+    """`Names.wait_for` has waited as long as it was told to: nobody has registered the name, or there is no name server, or none that answers.
+
+    `Names.wait_to_register` raises it for the last of these.
+    """
 
 
 class Unregistered(NoPartner):
@@ -88,6 +94,20 @@ class Unregistered(NoPartner):
 
     def _details(self) -> str:
         return f": nobody has registered {self.name}"
+
+
+class Unanswered(Timeout):
+    """The name server did not answer in time who has the name that a message was to go to. Nothing was sent.
+
+    ``partner`` is the name server.
+    """
+
+    def __init__(self, own: ThreadId, server: ThreadId, name: str) -> None:
+        super().__init__(0x2, of=Circumstances(own, server))
+        self.name = name
+
+    def _details(self) -> str:
+        return f": the name server did not answer who has the name {self.name}"
 
 
 class Kept:
@@ -128,8 +148,16 @@ class Book:
         self._timeout = arguments.seconds_or_none("timeout", timeout)
         self.server = None if server is None else ThreadId(arguments.thread_id("server", server))
 
-    def ask(self, label: int, name: bytes, originator: Optional[int] = None) -> Steps[Received]:
-        """A request. The name server is looked for where it is not known, and again where it has ended."""
+    def _times(self, end: Optional[float]) -> int:
+        """The timeouts of a request. Of a wait that has an end each phase has half of what is left, so that both together keep to it."""
+        left, longest = left_until(end), self._timeout
+        if left is not None:
+            half = max(left / 2, LEAST_TRY)
+            longest = half if longest is None else min(half, longest)
+        return timeouts(longest, longest)
+
+    def ask(self, label: int, name: bytes, originator: Optional[int] = None, end: Optional[float] = None) -> Steps[Received]:
+        """A request, of a wait until this moment. The name server is looked for where it is not known, and again where it has ended."""
         if self._life != self._thread.lives:
             self._life, self.server = self._thread.lives, None
         message = Message(label, strings=[name], originator=originator)
@@ -141,7 +169,7 @@ class Book:
                 if self.server is None:
                     raise NoNames from None
             try:
-                answer: Received = yield Ipc(self.server, self.server, message, timeouts(self._timeout, self._timeout), buffers)
+                answer: Received = yield Ipc(self.server, self.server, message, self._times(end), buffers)
                 break
             except NoPartner:
                 first, self.server = self.server.version + 1, None
@@ -155,19 +183,19 @@ class Book:
             raise L4Error(f"{self.server} is no name server")
         return answer
 
-    def register(self, name: str, originator: Optional[int] = None) -> Steps[ThreadId]:
-        """`Names.register`."""
+    def register(self, name: str, originator: Optional[int] = None, end: Optional[float] = None) -> Steps[ThreadId]:
+        """`Names.register`, of a wait until this moment."""
         if originator is not None:
             arguments.thread_or_nobody("originator", originator)
-        answer = yield from self.ask(REGISTER, _bytes(name), originator)
+        answer = yield from self.ask(REGISTER, _bytes(name), originator, end)
         registered = ThreadId(answer.words[0])
         if registered == self._thread.id:
             self._thread.kept.registered(name)
         return registered
 
-    def lookup(self, name: str) -> Steps[Optional[ThreadId]]:
-        """`Names.lookup`."""
-        answer = yield from self.ask(LOOK_UP, _bytes(name))
+    def lookup(self, name: str, end: Optional[float] = None) -> Steps[Optional[ThreadId]]:
+        """`Names.lookup`, of a wait until this moment."""
+        answer = yield from self.ask(LOOK_UP, _bytes(name), end=end)
         found = ThreadId(answer.words[0])
         return None if found == NILTHREAD else found
 
@@ -187,31 +215,39 @@ class Book:
 
     def wait_for(self, name: str, seconds: Optional[float]) -> Steps[ThreadId]:
         """`Names.wait_for`."""
-        waiting = pauses(arguments.seconds_or_none("seconds", seconds), 1.0)
+        end = end_of(arguments.seconds_or_none("seconds", seconds))
+        waiting = pauses_until(end, 1.0)
         while True:
             try:
-                found = yield from self.lookup(name)
+                found = yield from self.lookup(name, end)
                 missing = f"nobody has registered {name}"
             except NoNames as error:
                 found, missing = None, str(error)
+            except Timeout as error:
+                found, missing = None, f"the name server {error.partner} does not answer"
             if found is not None:
                 return found
             pause = next(waiting, None)
             if pause is None:
-                raise NameTimeout(f"{missing}; waited for {name}" + ("" if seconds is None else f" for {in_words(seconds)}")) from None
+                raise _waited(missing, name, seconds) from None
             yield Pause(pause)
 
     def wait_to_register(self, name: str, seconds: Optional[float]) -> Steps[ThreadId]:
         """`Names.wait_to_register`."""
-        waiting = pauses(arguments.seconds_or_none("seconds", seconds), 1.0)
+        end = end_of(arguments.seconds_or_none("seconds", seconds))
+        waiting = pauses_until(end, 1.0)
         while True:
             try:
-                return (yield from self.register(name))
+                return (yield from self.register(name, end=end))
             except NoNames as missing:
                 pause = next(waiting, None)
                 if pause is None:
                     missing.waited = seconds or None
                     raise
+            except Timeout as error:
+                pause = next(waiting, None)
+                if pause is None:
+                    raise _waited(f"the name server {error.partner} does not answer", name, seconds) from None
             yield Pause(pause)
 
     def keep(self) -> Steps[None]:
@@ -233,18 +269,20 @@ class Book:
 
     def call(self, name: str, step: Ipc, is_call: bool, wait_for: Optional[float]) -> Steps[Optional[Received]]:
         """A message to who has a name. Where that one has ended the name is looked up again; nothing was sent then."""
-        found, waiting = self._thread.kept.found, pauses(arguments.seconds_or_none("wait_for", wait_for))
+        found, seconds = self._thread.kept.found, arguments.seconds_or_none("wait_for", wait_for)
+        end, waiting = _until_there(seconds)
         while True:
             was_known = name in found
             try:
-                partner = found[name] if was_known else (yield from self._partner(name))
+                partner = found[name] if was_known else (yield from self._partner(name, end))
                 received: Optional[Received] = yield step._replace(to=partner, from_specifier=partner if is_call else NILTHREAD)
                 return received
-            except (NoPartner, NoNames) as missing:
+            except (NoPartner, NoNames, Unanswered) as missing:
                 if isinstance(missing, NoPartner) and missing.phase != SEND:
                     raise
                 found.pop(name, None)
                 if was_known:
+                    end, waiting = _until_there(seconds)
                     continue
                 pause = next(waiting, None)
                 if pause is None:
@@ -252,8 +290,11 @@ class Book:
                     raise missing from None
             yield Pause(pause)
 
-    def _partner(self, name: str) -> Steps[ThreadId]:
-        partner = yield from self.lookup(name)
+    def _partner(self, name: str, end: Optional[float]) -> Steps[ThreadId]:
+        try:
+            partner = yield from self.lookup(name, end)
+        except Timeout as error:
+            raise Unanswered(self._thread.id, error.partner, name) from None
         if partner is None:
             raise Unregistered(self._thread.id, name)
         self._thread.kept.found[name] = partner
@@ -302,7 +343,7 @@ class Names:
     """The name server, as a thread asks it.
 
     It is looked for at the first request, and again where it has ended, from the next version on. ``server`` is its id where
-    it is past version 63. ``timeout`` is how long each phase of a request may take, in seconds.
+    it is past version 63. ``timeout`` is how long each phase of a request may take, in seconds; a wait asks again after it.
     """
 
     def __init__(self, thread: "Thread", server: Optional[int] = None, timeout: Optional[float] = None) -> None:
@@ -333,12 +374,13 @@ class Names:
     def wait_for(self, name: str, seconds: Optional[float] = None) -> ThreadId:
         """The live thread that has the name, once there is one. It asks again after pauses of 5 milliseconds up to a second.
 
-        After so many seconds it raises `NameTimeout`, a ``TimeoutError``: nobody has registered the name, or there is no name server.
+        After so many seconds it raises `NameTimeout`, a ``TimeoutError``: nobody has registered the name, or there is no name server, or
+        none that answers.
         """
         return self._thread.run(self._book.wait_for(name, seconds))
 
     def wait_to_register(self, name: str, seconds: Optional[float] = None) -> ThreadId:
-        """Registers the name, once there is a name server. After so many seconds it raises `NoNames`."""
+        """Registers the name, once there is a name server. After so many seconds it raises `NoNames`; `NameTimeout` where one does not answer."""
         return self._thread.run(self._book.wait_to_register(name, seconds))
 
 
@@ -350,6 +392,16 @@ def register(thread: "Thread", name: str) -> ThreadId:
 def lookup(thread: "Thread", name: str) -> Optional[ThreadId]:
     """The live thread that has the name, or ``None``."""
     return Names(thread).lookup(name)
+
+
+def _until_there(seconds: Optional[float]) -> Tuple[Optional[float], Iterator[float]]:
+    """The end of the look ups of a call, which has none where it does not wait, and its pauses. The seconds begin now."""
+    return end_of(seconds or None), pauses_until(end_of(seconds))
+
+
+def _waited(missing: str, name: str, seconds: Optional[float]) -> NameTimeout:
+    """The end of a wait for a name, and what was missing."""
+    return NameTimeout(f"{missing}; waited for {name}" + ("" if seconds is None else f" for {in_words(seconds)}"))
 
 
 def _bytes(name: str) -> bytes:

@@ -149,7 +149,8 @@ class Thread(Caller):
     ) -> Received:
         """L4_Call: sends a message, and receives the answer of that thread alone.
 
-        ``wait_for`` is how many seconds to wait for a partner that is not there yet, before that; ``None`` is never.
+        ``wait_for`` is how many seconds to wait for a partner that is not there yet, before that; ``None`` is never. A name is looked up
+        within them; without them each phase of the look up has 2 seconds. Then `Unanswered` says which name server did not answer.
         """
         times = 0 if send_timeout is None and receive_timeout is None else timeouts(send_timeout, receive_timeout)
         if wait_for == 0 and not isinstance(to, str):

@@ -18,8 +18,16 @@ def end_of(seconds: Optional[float]) -> Optional[float]:
 
 
 def pauses(seconds: Optional[float], longest: float = LONGEST_PAUSE) -> Iterator[float]:
-    """The pauses between two tries, each twice as long as the last one, until so many seconds have passed; ``None`` is never."""
-    end, pause = end_of(seconds), FIRST_PAUSE
+    """The pauses between two tries, each twice as long as the last one, until so many seconds have passed; ``None`` is never.
+
+    The seconds begin with the first pause.
+    """
+    yield from pauses_until(end_of(seconds), longest)
+
+
+def pauses_until(end: Optional[float], longest: float = LONGEST_PAUSE) -> Iterator[float]:
+    """The same, until a moment of the monotonic clock."""
+    pause = FIRST_PAUSE
     while True:
         left = left_until(end)
         if left == 0:

@@ -148,6 +148,13 @@ module _ (xs : List Numbered) (cs : List (Option Standing)) (table : List Slot) 
       go true = get_or_past cs k None past
       go false = refl
 
+  pub standing_none : (k : ℕ) → slice_index_or cs k None ≡ None → standing_in (slot_at table k) ≡ None
+  standing_none k none = standing_is k ∙ go (is_some (slot_of xs k).space)
+    where
+      go : (b : Bool) → (if b then slice_index_or cs k None else None) ≡ None
+      go true = none
+      go false = refl
+
   -- the live thread of an id
   id_is : (t last : ℕ) → (id_of (number_of t) last == t) ≡ (last == version_of t)
   id_is t last = go (last == version_of t) refl

@@ -120,9 +120,10 @@ impl SlotTable {
     pub(crate) fn held(&self, place: usize) -> Option<&Standing>
         ensures { option_copied result ≡ standing_in (slot_at self.now place) }
     {
-        let call = self.calls.get(place)?;
+        // most places of a walk hold none
+        let call = self.calls.get(place)?.as_ref()?;
         if self.threads.is_taken(place as u32) {
-            call.as_ref()
+            Some(call)
         } else {
             None
         }

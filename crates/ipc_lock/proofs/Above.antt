@@ -10,7 +10,7 @@ use Rattle.ipc_core.specs.declared.command.Answer.{Answer}
 use Rattle.ipc_core.specs.declared.command.Command.{Command}
 use Rattle.ipc_core.specs.declared.command.Command.TheVariants.{Advance}
 use Rattle.ipc_core.specs.declared.refusal.Refusal.TheVariants.{NoThread}
-use Rattle.ipc_history.specs.Legal.{Legal}
+use Rattle.ipc_history.specs.Legal.{Legal, next_moving}
 use Rattle.ipc_history.specs.Outcomes.{OutcomeParts}
 use Rattle.ipc_history.specs.Threads.{is_live}
 use Rattle.ipc_history.specs.declared.entry.Entry.{Entry}
@@ -132,9 +132,16 @@ pub posts_none : (C P : Type 0) (place : ℕ) (said : Told) (own own_now : Known
     → PostsOrDrops C P place said own own_now
 posts_none C P place said own own_now gone = inr gone
 
-pub moves_some : (C P : Type 0) (now : ℕ) (answer : Answer) (moved : Bool) → ActsSome {C = C} P now None Advance answer → moved ≡ is_moved answer
-    → MovesSome C P now moved
-moves_some C P now answer moved acts is = record { answer = answer; acts = acts; moved_is = is }
+pub moves_some : {C P : Type 0} (before after : LoggedParts) (now : ℕ) (answer : Answer) (pens left : Errands C P) (goes_on : Bool)
+    → Turned C P before after (event.Acted now (Advance ∷ []) (answer ∷ []) (gifts pens))
+    → ActsAndTells {C = C} before.inside.upkeep after.inside.upkeep before.inside.kernel after.inside.kernel now None Advance answer before.inside.owners
+    before.inside.boxes after.inside.boxes no_errands pens
+    → Carries pens left → goes_on ≡ (is_moved answer && is_some (next_moving after.inside.kernel.history)) → MovesSome C P now goes_on
+moves_some before after now answer pens left goes_on turned acts carries is = record {
+  answer = answer;
+  acts = acts_some before after now None Advance answer pens left turned acts carries;
+  goes_on_is = is;
+}
 
 -- one block more was copied
 pub moves_more : (C P : Type 0) (now count : ℕ) (moved : Bool) → MovesEach C P now count → MovesSome C P now moved → moved ≡ true → MovesEach C P now (count + 1)

@@ -1,6 +1,6 @@
 -- What a caller above the lock is told: no contract there names the kernel that stands under the
 -- lock, so each says it of one that is of a legal history, or that its log leads to.
-use Rattle.std.specs.Prelude.{◌≡◌, ◌⊎◌, ◌+◌, ◌-◌, ◌/◌, ◌∷◌, ◌||◌, [], ℕ, zero, suc, Contains, List, length, not, slice_get, Bool, Option, Some, None, false, true, ⊤}
+use Rattle.std.specs.Prelude.{◌≡◌, ◌⊎◌, ◌+◌, ◌-◌, ◌/◌, ◌∷◌, ◌&&◌, ◌||◌, [], ℕ, zero, suc, Contains, List, is_some, length, not, slice_get, Bool, Option, Some, None, false, true, ⊤}
 use Rattle.std.specs.List.{list_any}
 use mathlib.Core.List.{IsPrefix}
 use Rattle.ipc_connection.specs.declared.asking.Request.{Request}
@@ -12,7 +12,7 @@ use Rattle.ipc_core.specs.declared.command.Answer.TheVariants.{Advanced}
 use Rattle.ipc_core.specs.declared.command.Command.{Command}
 use Rattle.ipc_core.specs.declared.command.Command.TheVariants.{Advance}
 use Rattle.ipc_core.specs.declared.refusal.Refusal.TheVariants.{NoThread}
-use Rattle.ipc_history.specs.Legal.{Legal}
+use Rattle.ipc_history.specs.Legal.{Legal, next_moving}
 use Rattle.ipc_history.specs.Outcomes.{OutcomeParts}
 use Rattle.ipc_history.specs.Threads.{is_live}
 use Rattle.ipc_history.specs.declared.entry.Entry.{Entry}
@@ -273,11 +273,12 @@ abbrev pub is_moved : Answer → Bool
 is_moved (Advanced advance.Moved) = true
 is_moved answer = false
 
--- a step was made at this moment that copies a block of what is in transfer, if there is one
-pub record MovesSome (C P : Type 0) (now : ℕ) (moved : Bool) : Type 0 where
+-- a step was made at this moment that copies a block of what is in transfer, if there is one; it
+-- goes on where it copied one and more is left
+pub record MovesSome (C P : Type 0) (now : ℕ) (goes_on : Bool) : Type 0 where
   pub answer : Answer
   pub acts : ActsSome {C = C} P now None Advance answer
-  pub moved_is : moved ≡ is_moved answer
+  pub goes_on_is : goes_on ≡ (is_moved answer && is_some (next_moving acts.after.inside.kernel.history))
 
 -- the same so often, and each step copied one
 abbrev pub MovesEach : (C P : Type 0) → ℕ → ℕ → Type 0

@@ -74,6 +74,7 @@ impl<C: Naming, T: Ledger, P: PenPort + Drop> SharedKernel<C, T, P> {
 
     /// Takes the lock, makes one step, and writes what it told to whom it concerns. A step is a
     /// command of the kernel at a moment, in microseconds, by a seat where a thread calls.
+    #[tactic(auto, using(crate::proofs::Above::acts_some))]
     pub fn submit<R: Wait>(
         &self,
         rt: &R,
@@ -86,31 +87,11 @@ impl<C: Naming, T: Ledger, P: PenPort + Drop> SharedKernel<C, T, P> {
         ensures takes { GivesSeat result.answer result.takes }
         ensures back { HandsBack command result.answer result.back }
     {
-        self.step(rt, now, seat, command, true)
-    }
-
-    /// As [`SharedKernel::submit`]. The mover is woken only where it may be needed.
-    #[tactic(auto, using(crate::proofs::Above::acts_some))]
-    fn step<R: Wait>(
-        &self,
-        rt: &R,
-        now: u64,
-        seat: Option<CallSeat<C>>,
-        command: Command,
-        wakes_mover: bool,
-    ) -> Answered<C, T>
-        ensures acts { ActsSome P now seat command result.answer }
-        ensures answers { AnswersStep seat command result.answer result.calls }
-        ensures takes { GivesSeat result.answer result.takes }
-        ensures back { HandsBack command result.answer result.back }
-    {
         let mut errands = Errands::none();
         let mut inside = self.inside(rt);
         let (answered, after) = inside.act_and_tell(&self.log, now, seat, command, &mut errands);
         drop(inside);
-        if wakes_mover {
-            self.wake_mover(&after);
-        }
+        self.wake_mover(&after);
         self.settle(rt, after, &mut errands);
         answered
     }

@@ -1,5 +1,5 @@
 ghost use Rattle.std.specs.Prelude.{◌≡◌, ◌+◌, ◌-◌, ◌≤◌, [], ◌∷◌, ◌++◌, length};
-ghost use Rattle.std.specs.Prelude.{Some, None, MatchBool};
+ghost use Rattle.std.specs.Prelude.{Some, None, MatchBool, is_some};
 ghost use Rattle.std.specs.List.{list_any};
 ghost use Rattle.ipc_history.specs.declared.entry.Entry.TheVariants.{Given};
 ghost use Rattle.ipc_history.specs.declared.entry.Input.TheVariants.{At};
@@ -54,6 +54,13 @@ impl Kernel {
             self.course.settle();
         }
         self.moment = moment;
+    }
+
+    /// Whether a call is in transfer, so that [`Kernel::advance`] copies a block.
+    pub fn is_copying(&self) -> bool
+        ensures { result ≡ is_some (next_moving self.now.history) }
+    {
+        self.course.next_block().is_some()
     }
 
     /// Copies a block of the least call in transfer: `BLOCK_BYTES` bytes, or the rest. Takes no

@@ -1,5 +1,6 @@
 //! Who is to be woken, and who rests.
-ghost use Rattle.std.specs.Prelude.{◌≡◌, ◌||◌, ◌&&◌, false, not, true};
+ghost use Rattle.std.specs.Prelude.{◌≡◌, ◌||◌, ◌&&◌, false, is_some, not, true};
+ghost use Rattle.ipc_history.specs.Legal.{next_moving};
 ghost use Rattle.ipc_lock.specs.Alarms.{Rests, WakesBefore};
 
 use super::Inside;
@@ -14,6 +15,13 @@ impl<C: Naming, T: Ledger, P: PenPort + Drop> Inside<C, T, P> {
         ensures { result ≡ self.now.begun }
     {
         self.begun
+    }
+
+    /// Whether a call is in transfer.
+    pub(crate) fn is_copying(&self) -> bool
+        ensures { result ≡ is_some (next_moving self.now.locked.kernel.history) }
+    {
+        self.locked.is_copying()
     }
 
     /// Whether no transfer can begin any more.

@@ -1,10 +1,10 @@
 //! What is read of what stands under the lock.
-ghost use Rattle.std.specs.Prelude.{◌≡◌, ◌<◌, ◌||◌, Err, IfOk, length, slice_get};
+ghost use Rattle.std.specs.Prelude.{◌≡◌, ◌<◌, ◌||◌, Err, IfOk, is_some, length, slice_get};
 ghost use Rattle.std.specs.List.{list_any};
 ghost use mathlib.Core.List.{IsPrefix};
 ghost use Rattle.ipc_core.specs.KernelParts.{history_of};
 ghost use Rattle.ipc_history.specs.Holding.{held_of};
-ghost use Rattle.ipc_history.specs.Legal.{Legal};
+ghost use Rattle.ipc_history.specs.Legal.{Legal, next_moving};
 ghost use Rattle.ipc_history.specs.Threads.{is_live};
 ghost use Rattle.ipc_lock.specs.Boxes.{has_connection};
 ghost use Rattle.ipc_lock.specs.Groups.{IsGroupAt};
@@ -129,6 +129,13 @@ impl<C: Naming, T: Ledger, P: PenPort + Drop> Logged<C, T, P> {
         ensures { result ≡ self.now.begun }
     {
         self.inside.has_begun()
+    }
+
+    /// Whether a call is in transfer.
+    pub(crate) fn is_copying(&self) -> bool
+        ensures { result ≡ is_some (next_moving self.now.inside.kernel.history) }
+    {
+        self.inside.is_copying()
     }
 
     /// Whether no transfer can begin any more.

@@ -1,8 +1,8 @@
 //! What is read of the history, and which of its entries memory may let go of.
-ghost use Rattle.std.specs.Prelude.{◌≡◌, ◌≢◌, ◌<◌, ◌≤◌, length, slice_get};
+ghost use Rattle.std.specs.Prelude.{◌≡◌, ◌≢◌, ◌<◌, ◌≤◌, is_some, length, slice_get};
 ghost use Rattle.std.specs.Prelude.{IfOk};
 ghost use Rattle.ipc_history.specs.Holding.{held_of, marked_to};
-ghost use Rattle.ipc_history.specs.Legal.{Legal, Quiet};
+ghost use Rattle.ipc_history.specs.Legal.{Legal, Quiet, next_moving};
 ghost use Rattle.ipc_history.specs.Paired.{Paired};
 ghost use Rattle.ipc_history.specs.Threads.{is_live};
 ghost use Rattle.ipc_core.specs.Compacting.{Compacts};
@@ -49,6 +49,13 @@ impl<C: Ledger, T: Ledger> Locked<C, T> {
         ensures { result ≡ has_begun_since self.now.kernel before }
     {
         before < self.kernel.whole_from() || has_begun(self.kernel.entries_from(before))
+    }
+
+    /// Whether a call is in transfer.
+    pub(crate) fn is_copying(&self) -> bool
+        ensures { result ≡ is_some (next_moving self.now.kernel.history) }
+    {
+        self.kernel.is_copying()
     }
 
     /// Whether a thread is live.

@@ -8,6 +8,7 @@ ghost use Rattle.ipc_lock.specs.Boxes.{has_connection};
 ghost use Rattle.ipc_lock.specs.Turns.{Runs};
 
 use super::SharedKernel;
+use crate::errands::Errands;
 use crate::inside::After;
 use crate::logged::Logged;
 use crate::rest::Rest;
@@ -76,15 +77,20 @@ impl<C: Naming, T: Ledger, P: PenPort + Drop> SharedKernel<C, T, P> {
         self.work.notify_one();
     }
 
-    /// Copies a block of what is in transfer; false where nothing is.
+    /// Copies a block of what is in transfer; false where nothing is left.
     #[tactic(auto, using(crate::proofs::Above::moves_some))]
     fn move_block<R: Wait>(&self, rt: &R, now: u64) -> bool
         ensures moves { MovesSome C P now result }
     {
-        let answered = self.step(rt, now, None, Command::Advance, false);
-        let moved = has_moved(&answered);
+        let mut errands = Errands::none();
+        let mut inside = self.inside(rt);
+        let (answered, after) =
+            inside.act_and_tell(&self.log, now, None, Command::Advance, &mut errands);
+        let goes_on = has_moved(&answered) && inside.is_copying();
+        drop(inside);
+        self.settle(rt, after, &mut errands);
         drop(answered);
-        moved
+        goes_on
     }
 
     /// Rests until a phase is due, or an earlier one comes, at the longest until the work is over.

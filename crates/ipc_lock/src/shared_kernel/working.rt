@@ -84,8 +84,13 @@ impl<C: Naming, T: Ledger, P: PenPort + Drop> SharedKernel<C, T, P> {
     {
         let mut errands = Errands::none();
         let mut inside = self.inside(rt);
-        let (answered, after) =
-            inside.act_and_tell(&self.log, now, None, Command::Advance, &mut errands);
+        let (answered, after) = inside.act_and_tell(
+            &self.log,
+            now,
+            None,
+            Command::Advance,
+            &mut errands,
+        );
         let goes_on = has_moved(&answered) && inside.is_copying();
         drop(inside);
         self.settle(rt, after, &mut errands);

@@ -232,7 +232,7 @@ def faults_of_bad_files(files, first, second):
         printed, status, told = files.read(words, second)
         # (what these tell of a part that stands alone: faults_of_begun)
         is_told = status == 0 and not told or (printed, status) == (b"", 6) and b"no history was found" in told
-        is_refused = (printed, status) == (b"", 2) and b"name the files before it" in told
+        is_refused = (printed, status) == (b"", 2) and b"name the files before it" in told and b"still take it" in told
         if not (is_told if words[0] in ("state", "follow") else is_refused):
             yield f"{words}: a part alone: {(printed, status, told)}"
 

@@ -173,8 +173,10 @@ def units(place, below):
         program = re.search(r"^ExecStart=(\S+)", unit, re.M)[1]
         assert not is_ours or program.startswith(f"{PREFIX}/bin/") and os.access(place + program, os.X_OK), program
         assert is_ours == ("NoNewPrivileges=yes" in unit) and ("Type=notify" in unit) == name.endswith("/l4d.service"), unit
-        assert name.endswith("/l4d.service") or re.search(r"^Requires=l4d.service\nPartOf=l4d.service\nAfter=l4d.service$", unit, re.M) and "StartLimitIntervalSec=0" in unit, unit
-        facts += 3
+        assert name.endswith("/l4d.service") or re.search(r"^Requires=l4d.service\nPartOf=l4d.service\nAfter=l4d.service$", unit, re.M), unit
+        # a unit that is to be started again is not given up after a few starts
+        assert ("Restart=" in unit) == bool(re.search(r"^StartLimitIntervalSec=0$", unit, re.M)), unit
+        facts += 4
         # (it makes a folder in /run/systemd, which in a container may not be there)
         if is_ours and shutil.which("systemd-analyze") and (os.path.isdir("/run/systemd") or os.getuid() == 0):
             told = run("systemd-analyze", "security", "--offline=true", f"{below}/{name}").stdout

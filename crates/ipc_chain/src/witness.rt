@@ -3,27 +3,11 @@
 ghost use Rattle.std.specs.Prelude.{IfOk, IsTrue, OnOk};
 ghost use Rattle.ipc_chain.specs.Judging.{IsFirstFile};
 
-mod allotment;
-mod budget;
-mod calls;
-mod ending;
-mod fillers;
-mod guide;
-mod hosts;
-mod messages;
-mod plan;
-mod wanted;
-mod windows;
-
 use crate::chain::Chain;
-use guide::{Guide, Turn};
 use ipc_compact::Base;
 use ipc_history::Entry;
+use ipc_witness::{Guide, Turn};
 use std::alloc::{AllocError, Global};
-use wanted::Wanted;
-
-/// How many entries come before those are let go of that nothing needs.
-const ENTRIES_HELD: u32 = 4_096;
 
 /// Looks for a history that ends with this base and these kept entries, behind the empty one;
 /// whether the search came to its end.
@@ -36,7 +20,7 @@ pub(crate) fn seek(
     requires first { IsFirstFile chain.old }
     ensures first { IfOk result (λ found. IsTrue found → IsFirstFile chain.new) }
 {
-    let mut guide = Guide::new(alloc, Wanted { base, kept })?;
+    let mut guide = Guide::new(alloc, base, kept)?;
     'turns: for _ in 0..guide.most() {
         let turn = guide.turn(chain.slots(), chain.next())?;
         match turn {

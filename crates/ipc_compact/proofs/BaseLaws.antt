@@ -3,7 +3,7 @@ use Rattle.std.proofs.lemmas.Bool.{false_from_ne_true}
 use Rattle.std.proofs.lemmas.Option.{none-some, cond_some}
 use Rattle.std.proofs.Common.{◌≡◌, refl, sym, ap, ◌∙◌, subst, ℕ, ◌+◌, ◌-◌, ◌%◌, ◌^◌, ◌<◌, Bool, true, false, not, ◌&&◌, ◌||◌, ◌==◌, eq-eqb, cond, if◌then◌else◌, List, [], ◌∷◌, Option, Some, None, filter, option_and_then, arith}
 use Rattle.std.specs.List.{list_any}
-use Rattle.std.specs.Option.{option_map_or, option_or}
+use Rattle.std.specs.Option.{option_map_or}
 use Rattle.ipc_words.specs.ThreadId.{number_of, version_of}
 use Rattle.ipc_words.specs.Version.{next_version_of}
 use Rattle.ipc_history.specs.CallParts.{CallParts}
@@ -23,18 +23,9 @@ use Rattle.ipc_compact.specs.BaseTold.{DroppedTold, OverTold, VersionsTold, drop
 use Rattle.ipc_compact.specs.Compact.{dropped_of, further_calls, is_among, is_further, is_kept, keeps, kept_calls, kept_list, kept_of, last_version, made_in}
 use Rattle.ipc_compact.proofs.CallReading as there
 use Rattle.ipc_compact.proofs.SameCompact as compacts
+use Rattle.ipc_desks.proofs.LastCalls.{last_place}
 
 -- The last version
-
-last_place : {Y : Type 0} (f : Entry → Option Y) (P : List Entry) (y : Y) → last_some f P ≡ Some y
-    → (e : Entry) × Place P e × (f e ≡ Some y)
-last_place f [] y h = absurd (none-some y h)
-last_place {Y} f (x ∷ P) y h = go (λ z k. last_place f P z k) (last_some f P) refl h
-  where
-    go : ((z : Y) → last_some f P ≡ Some z → (e : Entry) × Place P e × (f e ≡ Some z)) → (o : Option Y) → last_some f P ≡ o
-        → option_or o (f x) ≡ Some y → (e : Entry) × Place (x ∷ P) e × (f e ≡ Some y)
-    go again None e g = (x, record { front = []; rest = P; whole = refl }, g)
-    go again (Some z) e g = let t = again y (e ∙ g) in (t.0, record { front = x ∷ t.1.front; rest = t.1.rest; whole = ap (λ l. x ∷ l) t.1.whole }, t.2)
 
 -- a version that follows another one has low six bits that are not all zero
 next_odd : (v w : ℕ) → next_version_of v ≡ Some w → (w % 64 == 0) ≡ false

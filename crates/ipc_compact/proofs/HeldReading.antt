@@ -29,7 +29,8 @@ use Rattle.ipc_compact.specs.Held.{CallsHeld, FurtherHeld, LiveHeld, SaysOf}
 use Rattle.ipc_compact.proofs.CallReading as there
 use Rattle.ipc_compact.proofs.KeepLemmas.{IsKept, any_kept_at, kept_was_there}
 use Rattle.ipc_compact.proofs.KeptTold.{among_called, filter_source}
-use Rattle.ipc_compact.proofs.NewThread.{broken_opened, no_space, opened_before}
+use Rattle.ipc_threads.proofs.ThreadSteps.{broken_opened, no_space}
+use Rattle.ipc_compact.proofs.NewThread.{opened_before}
 use Rattle.ipc_compact.proofs.NotNeeded as needed
 use Rattle.ipc_compact.proofs.Reading as reading
 use Rattle.ipc_compact.proofs.SameCompact.{called_any}

@@ -22,8 +22,8 @@ use Rattle.ipc_threads.specs.Slots.{live_of}
 use Rattle.ipc_threads.proofs.Holders.{live_of_at, live_of_is}
 use Rattle.ipc_compact.specs.Compact.{further_calls, is_among, is_further, is_kept, is_kept_call, is_kept_thread, is_of_thread, is_told_of, kept_calls, names_one}
 use Rattle.ipc_compact.proofs.CallReading as there
-use Rattle.ipc_compact.proofs.KeptTold.{among_called, filter_source}
-use Rattle.ipc_compact.proofs.NotNeeded.{either_of, named_one}
+use Rattle.ipc_compact.proofs.KeptTold.{among_called, either_of, filter_source}
+use Rattle.ipc_compact.proofs.NotNeeded.{named_one}
 use Rattle.ipc_compact.proofs.SameCompact.{among_numbers}
 use Rattle.ipc_desks.proofs.Finishing.{same_tests}
 use Rattle.ipc_desks.proofs.LastCalls.{last_is, live_below}

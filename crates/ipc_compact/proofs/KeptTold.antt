@@ -227,7 +227,7 @@ tell_on (e ∷ X) P Q legal legal' agree ends h n is =
     ∙ (tell_on X (P ++ e ∷ []) (Q ++ e ∷ []) (legal_push P e legal f) (legal_push Q e legal' f') (stepped P Q e legal legal' f f' agree) (end2 P Q e legal legal' f f' agree) one n now
     ∙ ap (λ L. outcome_of L n) (append_assoc Q (e ∷ []) X))
 
-either_of : (a b : Bool) → (a || b) ≡ true → (a ≡ true) ⊎ (b ≡ true)
+pub either_of : (a b : Bool) → (a || b) ≡ true → (a ≡ true) ⊎ (b ≡ true)
 either_of true b h = inl refl
 either_of false b h = inr h
 

@@ -1,6 +1,6 @@
 -- A call that is entered: nothing is said of it yet. From ipc_threads, whose lemmas are private.
 use Rattle.std.proofs.lemmas.Bool.{false_from_ne_true}
-use Rattle.std.proofs.Common.{◌≡◌, refl, ◌∙◌, ℕ, ◌==◌, ◌&&◌, eq-eqb, Bool, true, false, List, [], ◌∷◌, ◌++◌, append-nil, Some, None, ◌⊎◌, inl, inr, arith}
+use Rattle.std.proofs.Common.{◌≡◌, refl, ◌∙◌, ℕ, ◌==◌, ◌&&◌, eq-eqb, true, false, List, [], ◌∷◌, ◌++◌, append-nil, Some, None, inl, inr, arith}
 use Rattle.std.specs.List.{list_any}
 use Rattle.ipc_words.specs.ThreadId.{nilthread}
 use Rattle.ipc_history.specs.CallParts.{CallParts}
@@ -24,10 +24,7 @@ use Rattle.ipc_laws.proofs.Settling.{legal_push}
 use Rattle.ipc_laws.proofs.Tests.{not_both}
 use Rattle.ipc_laws.proofs.ThreadChanges.{has_broken_push}
 use Rattle.ipc_laws.proofs.Silent.{Before, unnamed_front}
-
-bool_cases : (b : Bool) → (b ≡ true) ⊎ (b ≡ false)
-bool_cases true = inl refl
-bool_cases false = inr refl
+use Rattle.ipc_laws.proofs.Calling.{bool_cases}
 
 module _ (P : List Entry) (n t : ℕ) (call : CallParts) (legal : Legal P) (follows : Follows P (Given (Called n t call))) where
   abbrev e : Entry

@@ -28,14 +28,10 @@ use Rattle.ipc_compact.specs.Reads.{Narrower}
 use Rattle.ipc_compact.specs.Later.{NotNeededAgain, KeptLater}
 use Rattle.ipc_compact.proofs.Again.{kept_again}
 use Rattle.ipc_compact.proofs.CallReading as there
-use Rattle.ipc_compact.proofs.KeptTold.{filter_source, among_called}
+use Rattle.ipc_compact.proofs.KeptTold.{filter_source, among_called, either_of}
 use Rattle.ipc_compact.proofs.Reading as reading
 use Rattle.ipc_compact.proofs.SameCompact.{among_numbers, called_any}
 use Rattle.ipc_compact.proofs.ThreadReading as threads
-
-pub either_of : (a b : Bool) → (a || b) ≡ true → (a ≡ true) ⊎ (b ≡ true)
-either_of true b h = inl refl
-either_of false b h = inr h
 
 first : (a b : Bool) → a ≡ true → (a || b) ≡ true
 first a b h = grind arith

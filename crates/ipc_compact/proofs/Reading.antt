@@ -97,7 +97,7 @@ among_named n (k ∷ ns) e h named = go (among_named n ns e) (k == n) refl
 first_of_three : (a b c : Bool) → a ≡ true → (a || b || c) ≡ true
 first_of_three a b c h = grind arith
 
-before_all : {X : Type 0} (p : X → Bool) (xs : List X) → list_any p xs ≡ false → before p xs ≡ xs
+pub before_all : {X : Type 0} (p : X → Bool) (xs : List X) → list_any p xs ≡ false → before p xs ≡ xs
 before_all p [] h = refl
 before_all p (x ∷ xs) h = go (before_all p xs) (p x) refl
   where

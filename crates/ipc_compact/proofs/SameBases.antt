@@ -17,7 +17,7 @@ use Rattle.ipc_compact.specs.Compact.{from, last_version, base_of, compact}
 use Rattle.ipc_compact.specs.Agree.{SameCompact}
 use Rattle.ipc_compact.proofs.Following.{follow_compact}
 
-from_same : (f g : ℕ → ℕ) (k c : ℕ) → map f (from k c) ≡ map g (from k c) → (i : ℕ) → i < c → f (k + i) ≡ g (k + i)
+pub from_same : (f g : ℕ → ℕ) (k c : ℕ) → map f (from k c) ≡ map g (from k c) → (i : ℕ) → i < c → f (k + i) ≡ g (k + i)
 from_same f g k zero h i l = absurd (omega (arith, l))
 from_same f g k (suc c) h zero l = subst (λ j. f j ≡ g j) (omega arith) (ap (λ l. get_or l 0 0) h)
 from_same f g k (suc c) h (suc i) l = subst (λ j. f j ≡ g j) (omega arith) (from_same f g (k + 1) c (ap (λ l. drop 1 l) h) i (omega (arith, l)))
@@ -40,7 +40,7 @@ none_in P (Given (Broke thread)) follows k h = refl
 none_in P (Given (Moved n count)) follows k h = refl
 none_in P (Written output) follows k h = refl
 
-last_none : (P : List Entry) → Legal P → (k : ℕ) → table_slots ≤ k → last_some (thread_in k) P ≡ None
+pub last_none : (P : List Entry) → Legal P → (k : ℕ) → table_slots ≤ k → last_some (thread_in k) P ≡ None
 last_none = legal_induction (λ P. (k : ℕ) → table_slots ≤ k → last_some (thread_in k) P ≡ None) (λ k h. refl) (λ P e legal before follows k h. last_some_push (thread_in k) P e ∙ rw (none_in P e follows k h) (before k h))
 
 version_none : (P : List Entry) → Legal P → (k : ℕ) → table_slots ≤ k → last_version P k ≡ 0

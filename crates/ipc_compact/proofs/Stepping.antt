@@ -38,7 +38,8 @@ use Rattle.ipc_compact.proofs.SameCompact.{among_numbers}
 use Rattle.ipc_compact.proofs.SameRules.{numbers_same}
 use Rattle.ipc_compact.proofs.LiveNumbers.{taken_same}
 use Rattle.ipc_compact.proofs.NewCall as new
-use Rattle.ipc_compact.proofs.NewThread.{unopened, broken_opened, no_space}
+use Rattle.ipc_threads.proofs.ThreadSteps.{unopened, broken_opened, no_space}
+use Rattle.ipc_compact.proofs.Reading.{before_all}
 
 -- Of one entry
 
@@ -172,14 +173,6 @@ ends_closes k n (Written (Ended i j)) h = second _ _ h
     second : (a b : Bool) → (a && b) ≡ true → b ≡ true
     second a b h = grind arith
 ends_closes k n _ h = absurd (false≢true h)
-
-before_all : {X : Type 0} (p : X → Bool) (xs : List X) → list_any p xs ≡ false → before p xs ≡ xs
-before_all p [] h = refl
-before_all p (x ∷ xs) h = go (before_all p xs) (p x) refl
-  where
-    go : (list_any p xs ≡ false → before p xs ≡ xs) → (b : Bool) → p x ≡ b → (if b then [] else x ∷ before p xs) ≡ x ∷ xs
-    go again true is = absurd (true≢false (sym (rw is refl) ∙ h))
-    go again false is = ap (λ l. x ∷ l) (again (rw is at h))
 
 -- what a new call begins with
 start_new : (P : List Entry) (n : ℕ) → is_sent P n ≡ false → receive_start P n ≡ now (if to_of P n == nilthread then before_call P n else P)

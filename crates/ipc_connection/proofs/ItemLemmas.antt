@@ -1,17 +1,14 @@
 -- Items never lack memory by what they spell, and few words spell few strings.
-use Rattle.std.proofs.Common.{◌≡◌, ◌≢◌, ℕ, zero, suc, ◌+◌, ◌*◌, ◌≤◌, Bool, true, false, ◌||◌, List, [], ◌∷◌, length, take, drop, Option, Some, None, sum_by, nat_lt, Ok, Err, if◌then◌else◌, refl, arith}
+use Rattle.std.proofs.Common.{◌≡◌, ◌≢◌, ℕ, ◌+◌, ◌*◌, ◌≤◌, Bool, true, false, List, [], ◌∷◌, length, Option, Some, None, nat_lt, Ok, Err, if◌then◌else◌, refl, arith}
 use Rattle.std.specs.Option.{option_or}
 use Rattle.std.specs.List.{list_any}
-use Rattle.std.proofs.lemmas.Bool.{ltb-false}
-use Rattle.std.proofs.lemmas.List.{length-take, length-drop}
-use Rattle.std.proofs.lemmas.List.Sums.{sum_by-cons}
 use Rattle.ipc_words.specs.Limits.{max_string_bytes}
 use Rattle.ipc_items.specs.declared.item_fault.ItemFault.{ItemFault}
 use Rattle.ipc_items.specs.declared.item_fault.ItemFault.TheVariants.{PastWords, ReservedBit, OutsidePayload, TooLong, NoMemory}
-use Rattle.ipc_items.specs.ItemWords.{ItemWords, count_of, goes_on, length_of, items_within, items_of, put_before, strings_by, has_reserved_bit}
+use Rattle.ipc_items.specs.ItemWords.{ItemWords, length_of, items_within, items_of, strings_by, has_reserved_bit}
 use Rattle.ipc_items.specs.ItemFault.{item_fault, runs_past, range_fault, is_outside, bytes_in, string_fault, buffer_fault}
 use Rattle.ipc_items.specs.StringItem.{bytes_of, string_reading, buffer_reading, unless_fault}
-use Rattle.ipc_items.proofs.ReadLemmas.{no_fault, if_none}
+use Rattle.ipc_items.proofs.LimitLemmas.{within_words, full_strings, few_items, length_strings}
 
 abbrev Never : Option ItemFault → Type 0
 Never fault = fault ≢ Some NoMemory
@@ -52,51 +49,6 @@ pub buffers_never : (words : List ℕ) → buffer_reading words ≢ Err NoMemory
 buffers_never words = never_unless _ _ (never_buffers (items_of words))
 
 -- each string takes two words at least
-
-abbrev words_in : ItemWords → ℕ
-words_in item = suc (length item.pointers)
-
-within_words : (n : ℕ) (words : List ℕ) → sum_by words_in (items_within n words) ≤ length words
-within_words zero words = omega arith
-within_words (suc n) [] = omega arith
-within_words (suc n) (d ∷ words) =
-    let item : ItemWords = record { descriptor = d; pointers = take (count_of d) words } in
-    omega (arith, sum_by-cons words_in item (items_within n (drop (count_of d) words)), within_words n (drop (count_of d) words), length-take (count_of d) words, length-drop (count_of d) words)
-
-abbrev AreFull : List ItemWords → Type 0
-AreFull [] = Unit {0}
-AreFull (item ∷ items) = (count_of item.descriptor ≤ length item.pointers) × AreFull items
-
-either_false : (a b : Bool) → (a || b) ≡ false → a ≡ false
-either_false false b h = refl
-either_false true b h = absurd (cc)
-
-full : (item : ItemWords) (items : List ItemWords) → item_fault item items ≡ None → count_of item.descriptor ≤ length item.pointers
-full item items h =
-    let past = (if_none (runs_past item items) _ _ (if_none _ _ _ h).1).0 in
-    ltb-false (length item.pointers) (count_of item.descriptor) (either_false _ _ past)
-
-full_strings : (size before : ℕ) (items : List ItemWords) → string_fault size before items ≡ None → AreFull items
-full_strings size before [] h = tt
-full_strings size before (item ∷ items) h =
-    let n = no_fault size before item items h in
-    (full item items n.0, full_strings size (before + bytes_in item) items n.2)
-
-few_items : (items : List ItemWords) → AreFull items → 2 * length items ≤ sum_by words_in items
-few_items [] h = omega arith
-few_items (item ∷ items) h = omega (arith, h.0, few_items items h.1, sum_by-cons words_in item items)
-
-length_put : {X : Type 0} (parts : List X) (strings : List (List X)) → length (put_before parts strings) ≤ suc (length strings)
-length_put parts [] = omega arith
-length_put parts (next ∷ strings) = omega arith
-
-length_strings : {X : Type 0} (parts : ItemWords → List X) (items : List ItemWords) → length (strings_by parts items) ≤ length items
-length_strings parts [] = omega arith
-length_strings {X} parts (item ∷ items) = go (goes_on item.descriptor) (length_strings parts items)
-  where
-    go : (on : Bool) → length (strings_by parts items) ≤ length items → length (if on then put_before (parts item) (strings_by parts items) else parts item ∷ strings_by parts items) ≤ suc (length items)
-    go true later = omega (arith, length_put (parts item) (strings_by parts items))
-    go false later = omega arith
 
 unless_none : {A : Type 0} (fault : Option ItemFault) (list got : A) → unless_fault fault list ≡ Ok got → (fault ≡ None) × (got ≡ list)
 unless_none None list got e = (refl, cc)

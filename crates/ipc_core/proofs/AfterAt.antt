@@ -1,7 +1,7 @@
 -- After the At of a later moment the same inputs are admissible, but for those of the clock.
 use Rattle.std.proofs.lemmas.List.Folds.{list_any-append}
 use Rattle.std.proofs.lemmas.List.Elements.{filter_map-append}
-use Rattle.std.proofs.Common.{◌≡◌, refl, ap, ap₂, ◌∙◌, ℕ, Bool, true, false, not, ◌||◌, ◌&&◌, ◌==◌, cond, List, [], ◌∷◌, ◌++◌, append-nil, add-zero, length, filter_map, Option, Some, None, find}
+use Rattle.std.proofs.Common.{◌≡◌, refl, ap, ap₂, ◌∙◌, ℕ, Bool, false, not, ◌||◌, ◌&&◌, ◌==◌, List, [], ◌∷◌, ◌++◌, append-nil, add-zero, length, filter_map, Option, Some, None, find}
 use Rattle.std.specs.List.{list_any}
 use Rattle.std.specs.Option.{option_map_or}
 use Rattle.ipc_words.specs.ThreadId.{number_of}
@@ -20,11 +20,8 @@ use Rattle.ipc_laws.proofs.Steps.{call_at_push}
 use Rattle.ipc_laws.proofs.Tests.{not_both}
 use Rattle.ipc_laws.proofs.WordLemmas.{first_some_push, last_some_push, option_or_none}
 use Rattle.ipc_core.specs.CommandRoom.{is_clock}
-
--- tests that agree find the same
-find_agrees : {X : Type 0} (p q : X → Bool) (xs : List X) → ((x : X) → p x ≡ q x) → find p xs ≡ find q xs
-find_agrees p q [] h = refl
-find_agrees p q (x ∷ xs) h = ap₂ (λ b o. cond b (Some x) o) (h x) (find_agrees p q xs h)
+use Rattle.ipc_laws.proofs.IdleOutputs.{find_agrees}
+use Rattle.ipc_core.proofs.NewCalls.{no_more}
 
 any_agrees : {X : Type 0} (p q : X → Bool) (xs : List X) → ((x : X) → p x ≡ q x) → list_any p xs ≡ list_any q xs
 any_agrees p q [] h = refl
@@ -33,10 +30,6 @@ any_agrees p q (x ∷ xs) h = ap₂ (λ a b. a || b) (h x) (any_agrees p q xs h)
 map_or_agrees : {X : Type 0} (f g : X → Bool) (o : Option X) → ((x : X) → f x ≡ g x) → option_map_or f o false ≡ option_map_or g o false
 map_or_agrees f g None h = refl
 map_or_agrees f g (Some x) h = h x
-
-no_more : (b : Bool) → (b || false) ≡ b
-no_more true = refl
-no_more false = refl
 
 module _ (H : List Entry) (moment : ℕ) where
   -- the history and the At

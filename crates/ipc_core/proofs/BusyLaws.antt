@@ -45,7 +45,7 @@ use Rattle.ipc_core.specs.declared.command.Command.TheVariants.{Open, Enter, Exr
 use Rattle.ipc_core.specs.declared.refusal.Refusal.{Refusal}
 use Rattle.ipc_desks.specs.CallsOf.{is_busy as waits, made_by as made_of, taken_by as taken_of, last_call, number_by, outcome_to_take as waiting}
 use Rattle.ipc_desks.proofs.LastCalls.{last_is, last_push, open_is_last}
-use Rattle.ipc_core.proofs.OutcomeCall.{outcome_call}
+use Rattle.ipc_desks.proofs.TakenDesks.{outcome_call}
 
 -- Busy threads
 
@@ -168,7 +168,7 @@ counts_one p P some =
     let here : ◌≡◌ {A = ℕ} (cond (p q.0) 1 0) 1 = rw q.2 refl in
     rw q.1.whole (omega (arith, sum_by-append (λ e. cond (p e) 1 0) q.1.front (q.0 ∷ q.1.rest), sum_by-cons (λ e. cond (p e) 1 0) q.0 q.1.rest, here))
 
-counts_two : (p : Entry → Bool) (P rest : List Entry) (e : Entry) → list_any p P ≡ true → p e ≡ true → 2 ≤ count_by p (P ++ e ∷ rest)
+pub counts_two : (p : Entry → Bool) (P rest : List Entry) (e : Entry) → list_any p P ≡ true → p e ≡ true → 2 ≤ count_by p (P ++ e ∷ rest)
 counts_two p P rest e some passes =
     let first = counts_one p P some in
     let second : ◌≡◌ {A = ℕ} (cond (p e) 1 0) 1 = rw passes refl in
@@ -311,7 +311,7 @@ taken_is_idle kernel new thread since outcome sound told is = busy_is new thread
 
 -- A thread whose call was entered is busy
 
-outputs_break : (outputs : List Output) (t : ℕ) → list_any (breaks t) (map Written outputs) ≡ false
+pub outputs_break : (outputs : List Output) (t : ℕ) → list_any (breaks t) (map Written outputs) ≡ false
 outputs_break [] t = refl
 outputs_break (output ∷ outputs) t = outputs_break outputs t
 

@@ -37,6 +37,7 @@ use Rattle.ipc_laws.proofs.Tests.{both, not_both}
 use Rattle.ipc_core.specs.Steps.{with_input}
 use Rattle.ipc_core.specs.CommandRoom.{command_need, is_clock}
 use Rattle.ipc_core.proofs.AfterAt.{after_at, same_admissible}
+pub use Rattle.ipc_threads.proofs.Starting.{nothing_legal}
 
 input_follows : (H : List Entry) (input : Input) → Quiet H → IsTrue (is_admissible H input) → Follows H (Given input)
 unfolding Follows
@@ -62,7 +63,7 @@ with_same : (H : List Entry) (moment : ℕ) (input : Input) → nat_lt (now H) m
 with_same H moment input same = rw same (ap (λ l. l ++ Given input ∷ []) (append-nil H))
 
 -- with no phase due, of no call
-none_due : (H : List Entry) (moment : ℕ) → list_any (is_due_at H moment) (numbers H) ≡ false → (n : ℕ) → is_called H n ≡ true → is_due_at H moment n ≡ false
+pub none_due : (H : List Entry) (moment : ℕ) → list_any (is_due_at H moment) (numbers H) ≡ false → (n : ℕ) → is_called H n ≡ true → is_due_at H moment n ≡ false
 none_due H moment undue n called = false_from_ne_true _ (λ due.
     let made = called_place H n called in
     not_both (any_at (is_due_at H moment) (numbers H) n (number_place H n made.thread made.call made.at) due) undue)
@@ -194,12 +195,6 @@ continued_settled P Q R continued settled = record {
   legal = λ legal. settled.legal (continued.legal legal);
   quiet = settled.quiet;
 }
-
--- the empty history
-pub nothing_legal : Legal []
-unfolding Legal
-nothing_legal [] e rest whole = absurd (cc)
-nothing_legal (f ∷ P) e rest whole = absurd (cc)
 
 pub nothing_quiet : Quiet []
 unfolding next_output numbers

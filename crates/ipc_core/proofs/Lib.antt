@@ -18,7 +18,6 @@ pub mod Resting
 pub mod SeenFrom
 pub mod RunLaws
 pub mod IdleLaws
-pub mod OutcomeCall
 pub mod BusyLaws
 pub mod UnfinishedLaws
 pub mod SoundLaws

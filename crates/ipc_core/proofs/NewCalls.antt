@@ -64,7 +64,7 @@ called_given (Broke thread) n = refl
 called_given (Moved k count) n = refl
 
 -- the calls after a command are those before it, and its own
-no_more : (b : Bool) → (b || false) ≡ b
+pub no_more : (b : Bool) → (b || false) ≡ b
 no_more true = refl
 no_more false = refl
 

@@ -28,13 +28,10 @@ use Rattle.ipc_core.specs.Passing.{HasPassed, IsWritten}
 use Rattle.ipc_core.proofs.Commands.{output_legal, output_room}
 use Rattle.ipc_core.proofs.CourseLemmas.{Goes, goes_falls, goes_more, output_follows}
 use Rattle.ipc_core.proofs.FinishedLaws.{finished_live, finished_more, named_more, named_once, names_few}
+use Rattle.ipc_waits.proofs.CandidateLemmas.{or_assoc}
 
 or_false : (a b : Bool) → b ≡ false → (a || b) ≡ a
 or_false a b h = grind arith
-
-or_assoc : (a b c : Bool) → ((a || b) || c) ≡ (a || (b || c))
-or_assoc true b c = refl
-or_assoc false b c = refl
 
 -- An output that opens and breaks no thread, and enters no call, ends nobody's outcome
 written_fresh : (H : List Entry) (P : List Entry) (output : Output) (t : ℕ) → is_of t (Written output) ≡ true → finished_from P H t ≡ false

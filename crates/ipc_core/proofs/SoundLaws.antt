@@ -38,7 +38,7 @@ use Rattle.ipc_core.proofs.BusyLaws.{last_taken, still_among}
 use Rattle.ipc_core.proofs.CourseLemmas.{took}
 use Rattle.ipc_core.proofs.NewCalls.{takes_grows, ticks_grows}
 use Rattle.ipc_core.proofs.OtherCalls.{IsIdleFor, others_grown, others_more}
-use Rattle.ipc_core.proofs.OutcomeCall.{outcome_call}
+use Rattle.ipc_desks.proofs.TakenDesks.{outcome_call}
 
 -- a legal history goes on, to a quiet end, and no outcome is taken
 sound_grown : (old new : KernelParts) (more : List Entry) → IsSound old → new.history ≡ old.history ++ more → Legal new.history → Quiet new.history → new.taken ≡ old.taken → new.since ≡ length old.history → TookOthers new.history new.taken → IsSound new

@@ -36,7 +36,7 @@ use Rattle.ipc_desks.specs.CallsOf.{last_call, outcome_to_take as waiting}
 use Rattle.ipc_desks.proofs.LastCalls.{last_is}
 use Rattle.ipc_core.proofs.BusyLaws.{Keeps, does_keeps}
 use Rattle.ipc_core.proofs.NewCalls.{takes_grows, ticks_grows}
-use Rattle.ipc_core.proofs.OutcomeCall.{outcome_call}
+use Rattle.ipc_desks.proofs.TakenDesks.{outcome_call}
 
 -- the history goes on from where the command began, and of the thread's last call no outcome is
 -- taken

@@ -1,6 +1,6 @@
 -- What a call that is entered makes of the desks.
 use Rattle.std.proofs.lemmas.Bool.{false≢true, false_from_ne_true, ne_eqb, cases_eq}
-use Rattle.std.proofs.Common.{◌≡◌, ◌≢◌, refl, sym, ap, ◌∙◌, ℕ, ◌+◌, ◌<◌, ◌^◌, add-zero, Bool, true, false, ◌||◌, ◌&&◌, ◌==◌, not, eq-eqb, if◌then◌else◌, List, [], ◌∷◌, ◌++◌, Option, Some, None, unwrap_or, inl, inr, ◌⊎◌, arith}
+use Rattle.std.proofs.Common.{◌≡◌, ◌≢◌, refl, sym, ap, ◌∙◌, ℕ, ◌+◌, ◌<◌, ◌^◌, add-zero, Bool, true, false, ◌||◌, ◌&&◌, ◌==◌, not, eq-eqb, if◌then◌else◌, List, [], ◌∷◌, ◌++◌, Option, Some, None, unwrap_or, inl, inr, arith}
 use Rattle.std.specs.List.{list_any}
 use Rattle.std.specs.Option.{option_map_or}
 use Rattle.ipc_words.specs.ThreadId.{nilthread, number_of}
@@ -39,10 +39,7 @@ use Rattle.ipc_desks.specs.declared.desk.Told.TheVariants.{Nothing, Waiting, Rea
 use Rattle.ipc_desks.proofs.LastCalls.{absent, last_is, last_push, made_push, made_within, new_call_at}
 use Rattle.ipc_desks.proofs.CallDesks.{over_same}
 use Rattle.ipc_desks.proofs.DeskSteps.{taken_by_same, thread_desk_same}
-
-bool_cases : (b : Bool) → (b ≡ true) ⊎ (b ≡ false)
-bool_cases true = inl refl
-bool_cases false = inr refl
+use Rattle.ipc_laws.proofs.Calling.{bool_cases}
 
 sends_named : (n : ℕ) (e : Entry) → ends_send n e ≡ true → names n e ≡ true
 sends_named n (Written (Ended k m)) h = rw h refl

@@ -1,6 +1,6 @@
 -- What is handed over where a transfer ends well.
 use Rattle.std.proofs.lemmas.Bool.{false≢true, true≢false, false_from_ne_true}
-use Rattle.std.proofs.Common.{◌≡◌, ◌≢◌, refl, sym, ap, ◌∙◌, ℕ, ◌≤◌, ◌==◌, ◌||◌, ◌&&◌, eqb-true, eq-eqb, if◌then◌else◌, Bool, true, false, List, [], ◌∷◌, ◌++◌, length, Some, arith}
+use Rattle.std.proofs.Common.{◌≡◌, ◌≢◌, refl, sym, ap, ◌∙◌, ℕ, ◌≤◌, ◌==◌, ◌&&◌, eqb-true, eq-eqb, if◌then◌else◌, Bool, true, false, List, ◌∷◌, length, Some, arith}
 use Rattle.std.specs.List.{list_any}
 use Rattle.ipc_words.specs.MsgTag.{propagates}
 use Rattle.ipc_words.specs.ThreadId.{number_of}
@@ -29,16 +29,9 @@ use Rattle.ipc_desks.specs.declared.desk.Desk.{Desk}
 use Rattle.ipc_desks.proofs.DeskSteps.{desk_open}
 use Rattle.ipc_desks.proofs.MessageLemmas.{fitting-length}
 use Rattle.ipc_desks.proofs.OutputDesks.{ended_apart, passes, places_apart, untaken}
+use Rattle.ipc_threads.proofs.Spaces.{before_at}
 
 -- Whether it is propagated
-
-before_at : (test : Entry → Bool) (F R : List Entry) (x : Entry) → list_any test F ≡ false → test x ≡ true → before test (F ++ x ∷ R) ≡ F
-before_at test [] R x h p = rw p refl
-before_at test (y ∷ F) R x h p = go (test y) h (λ g. before_at test F R x g p)
-  where
-    go : (b : Bool) → (b || list_any test F) ≡ false → (list_any test F ≡ false → before test (F ++ x ∷ R) ≡ F) → (if b then [] else y ∷ before test (F ++ x ∷ R)) ≡ y ∷ F
-    go true g later = absurd (true≢false g)
-    go false g later = ap (λ l. y ∷ l) (later g)
 
 -- a caller lives where it calls
 caller_lived : (P : List Entry) → Legal P → (n : ℕ) → is_called P n ≡ true → is_live (before_call P n) (caller_of P n) ≡ true

@@ -57,7 +57,7 @@ made_kept P e t none = made_push P e t ∙ rw (no_call e t none) (add-zero (made
 
 -- What it says that a call is a thread's last
 
-last_place : {Y : Type 0} (f : Entry → Option Y) (P : List Entry) (y : Y) → last_some f P ≡ Some y → (e : Entry) × Place P e × (f e ≡ Some y)
+pub last_place : {Y : Type 0} (f : Entry → Option Y) (P : List Entry) (y : Y) → last_some f P ≡ Some y → (e : Entry) × Place P e × (f e ≡ Some y)
 last_place f [] y h = absurd (none-some y h)
 last_place {Y} f (x ∷ P) y h = go (λ z k. last_place f P z k) (last_some f P) refl h
   where

@@ -42,7 +42,7 @@ told_call H n u (Written (Aborted k j count)) g = told_either H (k == n) (j == n
 told_call H n u (Written (Ended k j)) g = ap (λ o. o.call) (sym (cond_some (j == n) (received H k n) u g).1)
 told_call H n u _ g = absurd (none-some u g)
 
-outcome_call : (H : List Entry) (n : ℕ) (o : OutcomeParts) → outcome_of H n ≡ Some o → o.call ≡ n
+pub outcome_call : (H : List Entry) (n : ℕ) (o : OutcomeParts) → outcome_of H n ≡ Some o → o.call ≡ n
 unfolding outcome_of
 outcome_call H n o h = go (not (is_over H n) || has_broken H (caller_of H n)) h
   where

@@ -15,7 +15,6 @@ use Rattle.ipc_history.specs.declared.entry.Entry.{Entry}
 use Rattle.ipc_history.specs.declared.entry.Entry.TheVariants.{Given, Written}
 use Rattle.ipc_history.specs.declared.entry.Input.{Input}
 use Rattle.ipc_history.specs.declared.entry.Input.TheVariants as input
-use Rattle.ipc_history.specs.declared.entry.Output.{Output}
 use Rattle.ipc_laws.proofs.Endings.{live_opened}
 use Rattle.ipc_laws.proofs.LiveThreads.{taken}
 use Rattle.ipc_laws.proofs.Places.{Place, any_at}
@@ -35,6 +34,7 @@ use Rattle.ipc_core.specs.declared.command.Command.TheVariants.{Open, Enter, Exr
 use Rattle.ipc_core.specs.declared.refusal.Refusal.{Refusal}
 use Rattle.ipc_core.specs.declared.refusal.Refusal.TheVariants.{BadNumber, NumberTaken, NumberWorn, HistoryFull}
 use Rattle.ipc_exchange.proofs.Opening.{unbroken}
+use Rattle.ipc_core.proofs.BusyLaws.{outputs_break}
 
 -- entries that break no thread leave it live
 pub live_more : (P Q : List Entry) (t : ℕ) → list_any (breaks t) Q ≡ false → is_live P t ≡ true → is_live (P ++ Q) t ≡ true
@@ -45,10 +45,6 @@ live_more P Q t none live = rw (list_any-append (opens t) P Q, list_any-append (
     go true false c h = refl
     go true true c h = h
     go false b c h = absurd (false≢true h)
-
-pub outputs_break : (outputs : List Output) (t : ℕ) → list_any (breaks t) (map Written outputs) ≡ false
-outputs_break [] t = refl
-outputs_break (output ∷ outputs) t = outputs_break outputs t
 
 clock_breaks : (H : List Entry) (moment t : ℕ) → list_any (breaks t) (at_if_later H moment) ≡ false
 clock_breaks H moment t = go (nat_lt (now H) moment) refl

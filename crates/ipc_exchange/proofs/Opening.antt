@@ -1,7 +1,6 @@
 -- A thread that opens was not opened before, and so has not ended.
 use Rattle.std.proofs.lemmas.Bool.{false≢true, false_from_ne_true}
-use Rattle.std.proofs.lemmas.List.Sums.{sum_by-append, sum_by-cons}
-use Rattle.std.proofs.Common.{◌≡◌, ℕ, ◌≤◌, Bool, true, false, cond, eq-eqb, eqb-true, List, ◌∷◌, ◌++◌, count_by, refl, arith}
+use Rattle.std.proofs.Common.{◌≡◌, ℕ, ◌≤◌, true, false, eq-eqb, eqb-true, List, count_by, refl, arith}
 use Rattle.std.specs.List.{list_any}
 use Rattle.ipc_history.specs.Entries.{breaks, opens}
 use Rattle.ipc_history.specs.Threads.{has_broken, was_opened, is_live}
@@ -14,19 +13,7 @@ use Rattle.ipc_laws.proofs.Histories.{admitted_at}
 use Rattle.ipc_laws.proofs.OneLive.{opened_once}
 use Rattle.ipc_laws.proofs.Pairing.{legal_before}
 use Rattle.ipc_laws.proofs.Places.{Place, any_front, any_place}
-
--- how many elements pass, where one does, and where another one does behind it
-counts_one : (p : Entry → Bool) (P : List Entry) → list_any p P ≡ true → 1 ≤ count_by p P
-counts_one p P some =
-    let q = any_place p P some in
-    let here : ◌≡◌ {A = ℕ} (cond (p q.0) 1 0) 1 = rw q.2 refl in
-    rw q.1.whole (omega (arith, sum_by-append (λ e. cond (p e) 1 0) q.1.front (q.0 ∷ q.1.rest), sum_by-cons (λ e. cond (p e) 1 0) q.0 q.1.rest, here))
-
-counts_two : (p : Entry → Bool) (P rest : List Entry) (e : Entry) → list_any p P ≡ true → p e ≡ true → 2 ≤ count_by p (P ++ e ∷ rest)
-counts_two p P rest e some passes =
-    let first = counts_one p P some in
-    let second : ◌≡◌ {A = ℕ} (cond (p e) 1 0) 1 = rw passes refl in
-    omega (arith, first, second, sum_by-append (λ e. cond (p e) 1 0) P (e ∷ rest), sum_by-cons (λ e. cond (p e) 1 0) e rest)
+use Rattle.ipc_core.proofs.BusyLaws.{counts_two}
 
 -- what ends was live
 broken_was_live : (P : List Entry) (thread : ℕ) → is_admissible P (Broke thread) ≡ true → is_live P thread ≡ true

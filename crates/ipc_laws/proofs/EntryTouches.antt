@@ -35,7 +35,7 @@ use Rattle.ipc_laws.proofs.Tests.{left, neither_left, neither_right, not_both}
 use Rattle.ipc_laws.proofs.Together.{receiver_open, sender_open}
 use Rattle.ipc_laws.proofs.Touching.{break_copies_none, other_lives}
 
-calls_names : (n : ℕ) (e : Entry) → calls n e ≡ true → names n e ≡ true
+pub calls_names : (n : ℕ) (e : Entry) → calls n e ≡ true → names n e ≡ true
 calls_names n (Given (Called k thread call)) h = h
 calls_names n _ h = absurd (false≢true h)
 

@@ -20,7 +20,7 @@ use Rattle.ipc_laws.proofs.Places.{Place}
 
 -- `find` and `first_some` by tests that agree
 
-find_agrees : {X : Type 0} (p q : X → Bool) (xs : List X) → ((x : X) → p x ≡ q x) → find p xs ≡ find q xs
+pub find_agrees : {X : Type 0} (p q : X → Bool) (xs : List X) → ((x : X) → p x ≡ q x) → find p xs ≡ find q xs
 find_agrees p q [] h = refl
 find_agrees p q (x ∷ xs) h = ap₂ (λ b o. cond b (Some x) o) (h x) (find_agrees p q xs h)
 

@@ -2,15 +2,12 @@
 use Rattle.std.proofs.lemmas.Bool.{leb-true}
 use Rattle.std.proofs.lemmas.Option.{none-some}
 use Rattle.std.proofs.lemmas.List.Sums.{sum_by-cons}
-use Rattle.std.proofs.Common.{◌≡◌, refl, sym, ap, ◌∙◌, ℕ, ◌+◌, ◌≤◌, Bool, true, false, if◌then◌else◌, List, [], ◌∷◌, ◌++◌, take, drop, map, length, length-drop, take-append-drop, nat_le, ap₂, Option, Some, None, option_map, arith}
+use Rattle.std.proofs.Common.{◌≡◌, refl, sym, ap, ◌∙◌, ℕ, ◌+◌, ◌≤◌, List, [], ◌∷◌, ◌++◌, take, drop, map, length, length-drop, take-append-drop, nat_le, ap₂, None, arith}
 use Rattle.ipc_items.specs.declared.buffer_list.Substring.{Substring}
 use Rattle.ipc_items.specs.Buffers.{capacity}
 use Rattle.ipc_items.specs.Fit.{overflow_offset}
-use Rattle.ipc_items.specs.Pieces.{PlacedBytes, put_piece, pieces, pieces_of_all, joined}
-
-pub joined_put : (pointer : ℕ) (bytes : List ℕ) (ps : List PlacedBytes) → joined (put_piece pointer bytes ps) ≡ bytes ++ joined ps
-joined_put pointer [] ps = refl
-joined_put pointer (b ∷ bytes) ps = refl
+use Rattle.ipc_items.specs.Pieces.{pieces, pieces_of_all, joined}
+use Rattle.ipc_items.proofs.PieceLemmas.{fitting, joined_put}
 
 pub joined_pieces : (parts : List Substring) (bytes : List ℕ) → length bytes ≤ capacity parts → joined (pieces parts bytes) ≡ bytes
 joined_pieces [] [] h = refl
@@ -19,11 +16,6 @@ joined_pieces (part ∷ parts) bytes h =
     let whole = sum_by-cons (λ (p : Substring). p.length) part parts in
     let rest : length (drop part.length bytes) ≤ capacity parts = omega (arith, length-drop part.length bytes, whole) in
     joined_put part.pointer (take part.length bytes) _ ∙ (ap (λ l. take part.length bytes ++ l) (joined_pieces parts (drop part.length bytes) rest) ∙ take-append-drop part.length bytes)
-
-fitting : (t : Bool) (f : ℕ → ℕ) (o : Option ℕ) → (if t then option_map f o else Some 0) ≡ None → (t ≡ true) × (o ≡ None)
-fitting true f None h = (refl, refl)
-fitting true f (Some x) h = absurd (none-some (f x) (sym h))
-fitting false f o h = absurd (none-some 0 (sym h))
 
 pub joined_all : (buffers : List (List Substring)) (strings : List (List ℕ)) → overflow_offset strings buffers ≡ None → map joined (pieces_of_all buffers strings) ≡ strings
 joined_all buffers [] h = refl

@@ -10,7 +10,7 @@ use Rattle.ipc_history.specs.Calls.{numbers, is_called, caller_of, to_of, from_o
 use Rattle.ipc_history.specs.Threads.{was_opened, is_live}
 use Rattle.ipc_history.specs.Phases.{is_over, is_sent, receiver_of, sender_of}
 use Rattle.ipc_history.specs.Legal.{Legal}
-use Rattle.ipc_laws.specs.Laws.{up_to}
+use Rattle.ipc_laws.specs.Laws.{one_if, up_to}
 use Rattle.ipc_laws.specs.Counting.{phase_steps, send_steps, receive_steps, steps_left, turn_left, all_steps_left, threads, live_threads, open_calls}
 use Rattle.ipc_history.specs.declared.entry.Entry.{Entry}
 use Rattle.ipc_history.specs.declared.entry.Entry.TheVariants.{Given, Written}
@@ -29,9 +29,6 @@ use Rattle.ipc_laws.proofs.Tests.{left, refuted, right}
 use Rattle.ipc_laws.proofs.WordLemmas.{last_some_push}
 
 -- a test that counts
-abbrev one_if : Bool → ℕ
-one_if b = cond b 1 0
-
 -- A number stands once among the numbers of the calls
 
 up_to_once : (n k : ℕ) → (k < n → sum_by (one_at n) (up_to k) ≡ 0) × (sum_by (one_at n) (up_to k) ≤ 1)

@@ -20,7 +20,7 @@ use Rattle.ipc_lock.specs.declared.events.Event.TheVariants as event
 use Rattle.ipc_lock.specs.declared.post_box.Work.{Work}
 use Rattle.ipc_lock.specs.declared.post_box.Work.TheVariants as work
 use Rattle.ipc_lock.specs.declared.upkeep.Upkeep.{Upkeep}
-use Rattle.ipc_lock.proofs.Moves.{loads_stay, same_looked, same_next, same_told}
+use Rattle.ipc_lock.proofs.Moves.{box_or, loads_stay, same_looked, same_next, same_told}
 
 -- who has a box has it still
 abbrev Keeps : ℕ → List BoxParts → List BoxParts → Type 0
@@ -31,10 +31,6 @@ keeps_same n boxes after same place is = ap (λ (l : List BoxParts). is_in n (sl
 
 keeps_both : (n : ℕ) (boxes between after : List BoxParts) → Keeps n boxes between → Keeps n between after → Keeps n boxes after
 keeps_both n boxes between after h k place is = k place (h place is)
-
-abbrev box_or : BoxParts → Option BoxParts → BoxParts
-box_or box None = box
-box_or box (Some other) = other
 
 -- the box of a place changed, and is still that of its connection
 keeps_set : (n : ℕ) (boxes : List BoxParts) (place : ℕ) (box left : BoxParts) → slice_get boxes place ≡ Some box
@@ -274,11 +270,11 @@ got_box C P n place before after (event.Took thread taken outcomes) h is = absur
 got_box C P n place before after (event.Marked upto) h is = absurd (true≢false (sym is))
 got_box C P n place before after event.Parted h is = absurd (true≢false (sym is))
 
-first_false : (a b : Bool) → a || b ≡ false → a ≡ false
+pub first_false : (a b : Bool) → a || b ≡ false → a ≡ false
 first_false true b is = absurd (true≢false is)
 first_false false b is = refl
 
-second_false : (a b : Bool) → a || b ≡ false → b ≡ false
+pub second_false : (a b : Bool) → a || b ≡ false → b ≡ false
 second_false true b is = absurd (true≢false is)
 second_false false b is = is
 

@@ -1,5 +1,5 @@
 -- Where no connection has a box any more each that got one has ended.
-use Rattle.std.proofs.Common.{◌≡◌, ◌==◌, ◌||◌, ℕ, zero, suc, List, [], ◌∷◌, Bool, true, false, Option, Some, None, eqb-true, true≢false, arith, refl, sym, ap, ◌∙◌, subst}
+use Rattle.std.proofs.Common.{◌≡◌, ◌||◌, ℕ, zero, suc, List, [], ◌∷◌, Bool, true, false, Option, Some, None, eqb-true, true≢false, arith, refl, sym, ap, ◌∙◌, subst}
 use Rattle.std.proofs.lemmas.List.Elements.{Contains-append_left, Contains-append_right}
 use Rattle.std.specs.List.{list_any}
 use Rattle.std.specs.Prelude.{Contains, is_some, slice_get}
@@ -14,15 +14,7 @@ use Rattle.ipc_lock.specs.Places.{is_in}
 use Rattle.ipc_lock.specs.Turns.{Runs}
 use Rattle.ipc_lock.specs.declared.events.Event.{Event}
 use Rattle.ipc_lock.specs.declared.events.Event.TheVariants as event
-use Rattle.ipc_lock.proofs.Homes.{logs_keep_boxes}
-
-first_false : (a b : Bool) → a || b ≡ false → a ≡ false
-first_false true b is = absurd (true≢false is)
-first_false false b is = refl
-
-second_false : (a b : Bool) → a || b ≡ false → b ≡ false
-second_false true b is = absurd (true≢false is)
-second_false false b is = is
+use Rattle.ipc_lock.proofs.Homes.{first_false, logs_keep_boxes, second_false}
 
 nobodys : (number : ℕ) (own : Option ℕ) → is_some own ≡ false → is_of number own ≡ false
 nobodys number None is = refl

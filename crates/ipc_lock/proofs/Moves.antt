@@ -81,7 +81,7 @@ same_box box = record { place = refl; number = refl; version = refl; shut = refl
 pub same_both : (box between after : BoxParts) → SameBox box between → SameBox between after → SameBox box after
 same_both box between after h k = record { place = k.place ∙ h.place; number = k.number ∙ h.number; version = k.version ∙ h.version; shut = k.shut ∙ h.shut; thread = k.thread ∙ h.thread }
 
-abbrev box_or : BoxParts → Option BoxParts → BoxParts
+abbrev pub box_or : BoxParts → Option BoxParts → BoxParts
 box_or box None = box
 box_or box (Some other) = other
 
@@ -175,7 +175,7 @@ same_told old new box left h = go (is_idle box.pen) h
     go true h = subst (λ (x : BoxParts). SameBox box x) (sym h.1) (record { place = refl; number = refl; version = refl; shut = refl; thread = refl })
     go false h = subst (λ (x : BoxParts). SameBox box x) (sym h.1) (same_box box)
 
-risen_thread : (seat : Option TakeParts) → thread_at_seat (risen seat) ≡ thread_at_seat seat
+pub risen_thread : (seat : Option TakeParts) → thread_at_seat (risen seat) ≡ thread_at_seat seat
 risen_thread None = refl
 risen_thread (Some seat) = refl
 

@@ -8,7 +8,7 @@ use Rattle.std.specs.Option.{option_or}
 use Rattle.ipc_core.specs.KernelParts.{KernelParts}
 use Rattle.ipc_core.specs.Laws.{IsSound}
 use Rattle.ipc_core.specs.Outcomes.{IsTaken, outcome_to_take}
-use Rattle.ipc_core.proofs.OutcomeCall.{outcome_call}
+use Rattle.ipc_desks.proofs.TakenDesks.{outcome_call}
 use Rattle.ipc_desks.specs.CallsOf.{is_among, last_call, outcome_to_take as waiting, untaken_outcome}
 use Rattle.ipc_desks.proofs.LastCalls.{absent, last_is, last_kept, last_push, new_call_at}
 use Rattle.ipc_history.specs.Calls.{call_at, caller_of, is_called}

@@ -1,16 +1,16 @@
 -- A clock reading: its At is written where a phase is due then, and else with the next input.
-use Rattle.std.proofs.Common.{◌≡◌, refl, sym, ap, subst, ◌∙◌, ℕ, ◌+◌, ◌≤◌, ◌<◌, Bool, true, false, ◌&&◌, List, [], ◌∷◌, ◌++◌}
-use Rattle.std.proofs.Common.{append_assoc, append-nil, length, map, inl, arith}
+use Rattle.std.proofs.Common.{◌≡◌, refl, sym, ap, subst, ◌∙◌, ℕ, ◌+◌, ◌≤◌, ◌<◌, Bool, true, false, List, [], ◌∷◌, ◌++◌}
+use Rattle.std.proofs.Common.{append-nil, length, map, inl, arith}
 use Rattle.std.specs.Prelude.{MatchBool, nat_lt, max, min}
 use Rattle.std.specs.List.{list_any}
 use Rattle.std.proofs.lemmas.Option.{none-some}
-use Rattle.std.proofs.lemmas.Bool.{ltb-true, ltb-false, lt-ltb, false_from_ne_true}
+use Rattle.std.proofs.lemmas.Bool.{ltb-true, lt-ltb}
 use Rattle.ipc_words.specs.Limits.{last_moment}
-use Rattle.ipc_history.specs.Calls.{is_called, numbers}
+use Rattle.ipc_history.specs.Calls.{numbers}
 use Rattle.ipc_history.specs.Legal.{Legal, Quiet, is_admissible}
 use Rattle.ipc_history.specs.NextOutput.{next_output}
 use Rattle.ipc_history.specs.Settled.{Settled}
-use Rattle.ipc_history.specs.Threads.{is_live, now}
+use Rattle.ipc_history.specs.Threads.{now}
 use Rattle.ipc_history.specs.Timing.{is_due_at}
 use Rattle.ipc_history.specs.declared.entry.Entry.{Entry}
 use Rattle.ipc_history.specs.declared.entry.Entry.TheVariants.{Given, Written}
@@ -18,23 +18,18 @@ use Rattle.ipc_history.specs.declared.entry.Input.TheVariants as input
 use Rattle.ipc_history.specs.declared.entry.Output.{Output}
 use Rattle.ipc_laws.proofs.Changing.{changes}
 use Rattle.ipc_laws.proofs.Clock.{at_stays_quiet}
-use Rattle.ipc_laws.proofs.Histories.{called_place, legal_front}
-use Rattle.ipc_laws.proofs.OneOpen.{number_place}
-use Rattle.ipc_laws.proofs.Places.{any_at}
-use Rattle.ipc_laws.proofs.Tests.{left, not_both, right}
+use Rattle.ipc_laws.proofs.Tests.{left, right}
 use Rattle.ipc_core.specs.Effects.{Ticks}
 use Rattle.ipc_core.specs.KernelParts.{KernelParts}
-use Rattle.ipc_core.specs.Laws.{IsSound}
 use Rattle.ipc_core.specs.Obeying.{Does, Obeys, cause_of}
 use Rattle.ipc_core.specs.Outcomes.{has_untaken}
 use Rattle.ipc_core.specs.Steps.{at_moment}
 use Rattle.ipc_core.specs.declared.command.Answer.TheVariants.{Done}
 use Rattle.ipc_core.specs.declared.command.Command.TheVariants.{At}
-use Rattle.ipc_core.proofs.BusyLaws.{no_call, outputs_call}
-use Rattle.ipc_core.proofs.Commands.{clock_brings, now_settled}
+use Rattle.ipc_core.proofs.BusyLaws.{no_call, outputs_break, outputs_call}
+use Rattle.ipc_core.proofs.Commands.{clock_brings, none_due, now_settled}
 use Rattle.ipc_core.proofs.SoundLaws.{stays_sound}
-use Rattle.ipc_desks.specs.CallsOf.{last_call}
-use Rattle.ipc_exchange.proofs.LiveLemmas.{live_more, outputs_break}
+use Rattle.ipc_exchange.proofs.LiveLemmas.{live_more}
 use Rattle.ipc_shell.specs.Replays.{ends_at}
 use Rattle.ipc_shell.specs.Script.{is_untaken}
 use Rattle.ipc_shell.proofs.Untaken.{untaken_other, untaken_written}
@@ -51,12 +46,6 @@ later_parts H moment h = (ltb-true (now H) moment (left _ _ h), ltb-true moment 
 
 reading_is : (a m last : ℕ) → a < m → m < last + 1 → max a (min m last) ≡ m
 reading_is a m last lt most = omega arith
-
-none_due : (H : List Entry) (moment : ℕ) → list_any (is_due_at H moment) (numbers H) ≡ false → (n : ℕ) → is_called H n ≡ true
-    → is_due_at H moment n ≡ false
-none_due H moment undue n called = false_from_ne_true _ (λ due.
-    let made = called_place H n called in
-    not_both (any_at (is_due_at H moment) (numbers H) n (number_place H n made.thread made.call made.at) due) undue)
 
 module _ (entries_limit calls_limit : ℕ) (k : KernelParts) (stage : Stage entries_limit calls_limit k) (m : ℕ) (rest : List Entry) where
   -- the history with the At, and all that comes of it

@@ -1,10 +1,10 @@
 -- A kernel that has done what the entries so far ask: it has their history, but for the At that it
 -- writes with its next input.
-use Rattle.std.proofs.Common.{◌≡◌, refl, sym, ap, subst, ◌∙◌, ℕ, ◌≤◌, ◌<◌, Bool, true, false, ◌==◌, List, [], ◌∷◌, ◌++◌, append_assoc}
-use Rattle.std.proofs.Common.{append-nil, length, map, Option, None, le_refl, inl, arith}
+use Rattle.std.proofs.Common.{◌≡◌, refl, sym, ap, ◌∙◌, ℕ, ◌≤◌, Bool, true, false, ◌==◌, List, [], ◌∷◌, ◌++◌}
+use Rattle.std.proofs.Common.{append-nil, length, map, None, le_refl, inl, arith}
 use Rattle.std.specs.Prelude.{nat_lt, if◌then◌else◌}
 use Rattle.std.specs.List.{list_any}
-use Rattle.std.proofs.lemmas.Bool.{ltb-true, ltb-false, false_from_ne_true}
+use Rattle.std.proofs.lemmas.Bool.{ltb-true, false_from_ne_true}
 use Rattle.ipc_history.specs.Words.{last_some}
 use Rattle.ipc_history.specs.Entries.{breaks, number_by}
 use Rattle.ipc_history.specs.Legal.{Legal, Quiet, is_admissible}
@@ -19,16 +19,16 @@ use Rattle.ipc_desks.specs.CallsOf.{last_call}
 use Rattle.ipc_core.specs.CommandRoom.{is_clock}
 use Rattle.ipc_core.specs.KernelParts.{KernelParts}
 use Rattle.ipc_core.specs.Laws.{IsSound, is_call_of}
-use Rattle.ipc_core.specs.Obeying.{MayObey, Obeys}
+use Rattle.ipc_core.specs.Obeying.{Obeys}
 use Rattle.ipc_core.specs.Outcomes.{has_untaken}
 use Rattle.ipc_core.specs.Steps.{Takes, at_if_later, with_input}
 use Rattle.ipc_core.specs.declared.command.Answer.{Answer}
 use Rattle.ipc_core.specs.declared.command.Command.{Command}
 use Rattle.ipc_core.proofs.AfterAt.{same_admissible}
-use Rattle.ipc_core.proofs.BusyLaws.{clock_call, no_call, outputs_call}
+use Rattle.ipc_core.proofs.BusyLaws.{clock_call, no_call, outputs_break, outputs_call}
 use Rattle.ipc_core.proofs.Commands.{now_settled, now_with_input}
 use Rattle.ipc_core.proofs.SoundLaws.{stays_sound}
-use Rattle.ipc_exchange.proofs.LiveLemmas.{live_more, outputs_break}
+use Rattle.ipc_exchange.proofs.LiveLemmas.{live_more}
 use Rattle.ipc_shell.specs.Replays.{ends_at}
 use Rattle.ipc_shell.specs.Script.{is_act, is_call, is_untaken}
 use Rattle.ipc_shell.proofs.Untaken.{untaken_act, untaken_other, untaken_written}

@@ -1,8 +1,7 @@
 -- The take of an outcome that is there.
-use Rattle.std.proofs.Common.{◌≡◌, refl, sym, ap, subst, ◌∙◌, ℕ, ◌≤◌, Bool, true, false, not, ◌&&◌, ◌||◌, ◌==◌, eq-eqb, eqb-true, List}
-use Rattle.std.proofs.Common.{[], ◌∷◌, ◌++◌, length, Option, Some, None, inl, le_refl, arith}
+use Rattle.std.proofs.Common.{◌≡◌, refl, sym, ap, subst, ◌∙◌, ℕ, Bool, true, false, not, ◌&&◌, ◌||◌, ◌==◌, eq-eqb, eqb-true, List}
+use Rattle.std.proofs.Common.{[], ◌∷◌, length, Option, Some, None, inl}
 use Rattle.std.specs.Prelude.{option_and_then, unwrap_or, if◌then◌else◌}
-use Rattle.std.specs.List.{list_any}
 use Rattle.std.specs.Option.{option_map_or}
 use Rattle.std.proofs.lemmas.Bool.{false≢true, false_from_ne_true}
 use Rattle.std.proofs.lemmas.List.Folds.{list_any-append}
@@ -23,13 +22,11 @@ use Rattle.ipc_core.specs.Steps.{taken_after}
 use Rattle.ipc_core.specs.declared.command.Answer.TheVariants.{Taken}
 use Rattle.ipc_core.specs.declared.command.Command.TheVariants.{Take}
 use Rattle.ipc_core.proofs.BusyLaws.{taken_is_idle, busy_is}
-use Rattle.ipc_core.proofs.IdleLaws.{idle_has_nothing}
-use Rattle.ipc_core.proofs.OutcomeCall.{outcome_call}
+use Rattle.ipc_desks.proofs.TakenDesks.{outcome_call}
 use Rattle.ipc_core.proofs.SoundLaws.{stays_sound}
 use Rattle.ipc_desks.specs.CallsOf.{is_busy as waits, last_call, outcome_to_take as waiting}
 use Rattle.ipc_desks.proofs.LastCalls.{last_is}
 use Rattle.ipc_shell.specs.Replays.{IsDone}
-use Rattle.ipc_shell.proofs.Busy.{untaken_falls}
 use Rattle.ipc_shell.proofs.Stages.{Stage}
 
 -- the outcome of a call that is over, while its caller lives

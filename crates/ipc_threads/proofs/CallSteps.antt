@@ -2,7 +2,7 @@
 use Rattle.std.proofs.lemmas.Bool.{false_from_ne_true, cases_eq, ne_eqb}
 use Rattle.std.proofs.lemmas.Option.{none-some}
 use Rattle.std.proofs.lemmas.List.{get_or-set_same, get_or-set_other, length-set, length-append}
-use Rattle.std.proofs.Common.{◌≡◌, ◌≢◌, refl, sym, ap, ◌∙◌, ℕ, ◌+◌, ◌<◌, ◌==◌, ◌||◌, ◌&&◌, eq-eqb, if◌then◌else◌, Bool, true, false, List, [], ◌∷◌, ◌++◌, append-nil, length, Option, Some, None, is_some, option_map, slice_set, ◌⊎◌, inl, inr, arith}
+use Rattle.std.proofs.Common.{◌≡◌, ◌≢◌, refl, sym, ap, ◌∙◌, ℕ, ◌+◌, ◌<◌, ◌==◌, ◌||◌, ◌&&◌, eq-eqb, if◌then◌else◌, Bool, true, false, List, [], ◌∷◌, ◌++◌, append-nil, length, Option, Some, None, is_some, option_map, slice_set, inl, inr, arith}
 use Rattle.std.specs.List.{list_any}
 use Rattle.ipc_words.specs.Limits.{table_slots}
 use Rattle.ipc_words.specs.ThreadId.{nilthread, number_of}
@@ -44,10 +44,7 @@ use Rattle.ipc_threads.proofs.Holders.{live_of_at, live_of_is}
 use Rattle.ipc_threads.proofs.OutputSteps.{same}
 use Rattle.ipc_threads.proofs.SlotSteps.{live_kept, space_kept, version_kept, last_kept}
 use Rattle.ipc_threads.proofs.StandingSteps.{found, own, standing_step}
-
-bool_cases : (b : Bool) → (b ≡ true) ⊎ (b ≡ false)
-bool_cases true = inl refl
-bool_cases false = inr refl
+use Rattle.ipc_laws.proofs.Calling.{bool_cases}
 
 module _ (P : List Entry) (n t : ℕ) (call : CallParts) (legal : Legal P) (follows : Follows P (Given (Called n t call))) where
   abbrev e : Entry

@@ -7,6 +7,7 @@ pub mod Tables
 pub mod SlotTables
 pub mod LiveSlots
 pub mod Starting
+pub mod Walks
 pub mod LastEntries
 pub mod Recents
 pub mod Holders

@@ -9,6 +9,7 @@ use Rattle.ipc_history.specs.Legal.{Legal}
 use Rattle.ipc_history.specs.declared.entry.Entry.{Entry}
 use Rattle.ipc_history.specs.declared.entry.Entry.TheVariants.{Given, Written}
 use Rattle.ipc_history.specs.declared.entry.Input.TheVariants.{At, Opened, Called, Exreg, Broke, Moved}
+use Rattle.ipc_laws.specs.Laws.{one_if}
 use Rattle.ipc_laws.specs.Counting.{live_threads, threads}
 use Rattle.ipc_laws.proofs.OneLive.{opened_once}
 use Rattle.ipc_laws.proofs.Sums.{count_agrees, one_at, sum_both}
@@ -20,9 +21,6 @@ unfolding live_threads threads
 live_none = refl
 
 -- An Opened makes its thread live
-
-abbrev one_if : Bool → ℕ
-one_if b = cond b 1 0
 
 pub one_more_live : (P : List Entry) (t space : ℕ) → is_live (P ++ Given (Opened t space) ∷ []) t ≡ true → live_threads (P ++ Given (Opened t space) ∷ []) ≡ live_threads P + 1
 unfolding live_threads

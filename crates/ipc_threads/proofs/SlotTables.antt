@@ -1,5 +1,5 @@
 -- What a table of slots says after a change of its threads or of an open call.
-use Rattle.std.proofs.Common.{◌≡◌, refl, sym, cond, ap, ◌∙◌, ℕ, zero, suc, ◌+◌, ◌*◌, ◌^◌, ◌<◌, ◌≤◌, ◌==◌, eq-eqb, eqb-true, true, false, Bool, List, [], ◌∷◌, length, Option, Some, None, Ok, ◌&&◌, inl, inr, subst, option_map, option_and_then, is_some, if◌then◌else◌, arith}
+use Rattle.std.proofs.Common.{◌≡◌, refl, sym, ap, ◌∙◌, ℕ, zero, suc, ◌+◌, ◌*◌, ◌^◌, ◌<◌, ◌≤◌, ◌==◌, eq-eqb, eqb-true, true, false, Bool, List, [], ◌∷◌, length, Option, Some, None, Ok, ◌&&◌, inl, inr, subst, option_map, option_and_then, is_some, if◌then◌else◌, arith}
 use Rattle.std.specs.Prelude.{replicate, slice_index_or, slice_set}
 use Rattle.std.specs.Option.{option_map_or}
 use Rattle.std.proofs.lemmas.Bool.{false≢true, ne_eqb, cases_order}
@@ -17,6 +17,7 @@ use Rattle.ipc_threads.specs.Steps.{calling, with_call, live_with, called_live, 
 use Rattle.ipc_threads.specs.Table.{blank, open_call_in, ended, fresh, live_slots, if_thread, live_in, slot_at, slots_from, slot_from, space_in, live_from}
 use Rattle.ipc_threads.specs.declared.slot.Live.{Live}
 use Rattle.ipc_threads.specs.declared.slot.Standing.{Standing}
+use Rattle.ipc_laws.specs.Laws.{one_if}
 
 -- a live thread with this number, version, call and space
 abbrev made : ℕ → ℕ → Option Standing → ℕ → Live
@@ -47,9 +48,6 @@ at_next : (k p : ℕ) → k + suc p ≡ k + 1 + p
 at_next k p = omega arith
 
 -- how many are live
-abbrev one_if : Bool → ℕ
-one_if b = cond b 1 0
-
 pub live_from_threads : (k : ℕ) (xs : List Numbered) (cs : List (Option Standing)) → length xs ≡ length cs → live_slots (slots_from k xs cs) ≡ live_count xs
 live_from_threads k [] cs h = refl
 live_from_threads k (x ∷ xs) [] h = absurd (omega (arith, h))

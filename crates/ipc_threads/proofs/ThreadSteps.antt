@@ -17,6 +17,7 @@ use Rattle.ipc_history.specs.Legal.{Legal, Follows, is_admissible, may_open}
 use Rattle.ipc_history.specs.declared.entry.Entry.{Entry}
 use Rattle.ipc_history.specs.declared.entry.Entry.TheVariants.{Given}
 use Rattle.ipc_history.specs.declared.entry.Input.TheVariants.{At, Opened, Exreg, Broke}
+use Rattle.ipc_laws.specs.Laws.{one_if}
 use Rattle.ipc_laws.proofs.Changing.{changes}
 use Rattle.ipc_laws.proofs.Endings.{live_opened, broken_at}
 use Rattle.ipc_laws.proofs.Histories.{admitted_at}
@@ -76,10 +77,7 @@ noted_exreg P thread target control slots legal follows stands = record {
 
 -- A thread that opens was not opened before
 
-abbrev one_if : Bool → ℕ
-one_if b = cond b 1 0
-
-counts_one : (p : Entry → Bool) (P : List Entry) → list_any p P ≡ true → 1 ≤ count_by p P
+pub counts_one : (p : Entry → Bool) (P : List Entry) → list_any p P ≡ true → 1 ≤ count_by p P
 counts_one p P some =
     let q = any_place p P some in
     rw q.1.whole (omega (arith, sum_by-append (λ e. cond (p e) 1 0) q.1.front (q.0 ∷ q.1.rest), sum_by-cons (λ e. cond (p e) 1 0) q.0 q.1.rest, here q.2))
@@ -87,7 +85,7 @@ counts_one p P some =
     here : {e : Entry} → p e ≡ true → one_if (p e) ≡ 1
     here passes = rw passes refl
 
-unopened : (P : List Entry) (t space : ℕ) → Legal P → Follows P (Given (Opened t space)) → was_opened P t ≡ false
+pub unopened : (P : List Entry) (t space : ℕ) → Legal P → Follows P (Given (Opened t space)) → was_opened P t ≡ false
 unfolding was_opened
 unopened P t space legal follows = false_from_ne_true _ (λ opened.
     let once = opened_once (P ++ Given (Opened t space) ∷ []) (legal_push P (Given (Opened t space)) legal follows) t in
@@ -96,7 +94,7 @@ unopened P t space legal follows = false_from_ne_true _ (λ opened.
     omega (arith, once, first, second, sum_by-append (λ e. cond (opens t e) 1 0) P (Given (Opened t space) ∷ []), sum_by-cons (λ e. cond (opens t e) 1 0) (Given (Opened t space)) []))
 
 -- and so has not ended, has no space, and no open call
-broken_opened : (P : List Entry) → Legal P → (t : ℕ) → has_broken P t ≡ true → was_opened P t ≡ true
+pub broken_opened : (P : List Entry) → Legal P → (t : ℕ) → has_broken P t ≡ true → was_opened P t ≡ true
 unfolding has_broken was_opened is_admissible
 broken_opened P legal t broken = let p = any_place (breaks t) P broken in go p.0 p.1 p.2
   where
@@ -107,7 +105,7 @@ broken_opened P legal t broken = let p = any_place (breaks t) P broken in go p.0
         any_front (opens t) P (Given (Broke u)) at (rw same at live)
     go _ at ends = absurd (false≢true ends)
 
-no_space : (P : List Entry) (t : ℕ) → list_any (opens t) P ≡ false → first_some (space_in t) P ≡ None
+pub no_space : (P : List Entry) (t : ℕ) → list_any (opens t) P ≡ false → first_some (space_in t) P ≡ None
 no_space [] t h = refl
 no_space (e ∷ P) t h = rw (one e (neither_left (opens t e) (list_any (opens t) P) h), no_space P t (neither_right (opens t e) (list_any (opens t) P) h)) refl
   where

@@ -5,7 +5,7 @@ use Rattle.ipc_history.specs.Legal.{Follows, Legal}
 use Rattle.ipc_history.specs.declared.entry.Entry.{Entry}
 use Rattle.ipc_laws.proofs.Histories.{follows_last, legal_front}
 use Rattle.ipc_threads.specs.PastSlots.{PastSlots}
-use Rattle.l4sh_state.proofs.Walks.{IsWalked}
+use Rattle.ipc_threads.proofs.Walks.{IsWalked}
 use Rattle.l4sh_count.specs.Events.{event_in, events_after, events_in, one}
 use Rattle.l4sh_count.specs.Tallies.{IsCounted}
 use Rattle.l4sh_count.specs.Walked.{IsCounting, IsTold}

@@ -1,45 +1,20 @@
--- A walk over the entries of a history that builds its slots.
-use Rattle.std.proofs.lemmas.List.{take_all, take_more}
-use Rattle.std.proofs.Common.{◌≡◌, sym, ap, ◌∙◌, ℕ, ◌+◌, ◌<◌, ◌≤◌, List, [], ◌∷◌, ◌++◌, length, take, get_or}
+-- A walk over the entries of a history that stops at the first fault.
+use Rattle.std.proofs.lemmas.List.{take_all}
+use Rattle.std.proofs.Common.{◌≡◌, ◌∙◌, ℕ, ◌<◌, ◌≤◌, List, length, take, get_or}
 use Rattle.ipc_history.specs.Legal.{Legal, Follows}
 use Rattle.ipc_history.specs.declared.entry.Entry.{Entry}
 use Rattle.ipc_laws.proofs.Histories.{follows_last}
-use Rattle.ipc_laws.proofs.Settling.{legal_push}
 use Rattle.ipc_threads.specs.PastSlots.{PastSlots}
+use Rattle.ipc_threads.proofs.Walks.{IsWalked, one_more}
 use Rattle.l4sh_state.specs.States.{IsFaultAt}
 
--- the entries before a place are the past, that of the slots too, and they are legal
-pub record IsWalked (H : List Entry) (i : ℕ) (past : List Entry) (slots : PastSlots) : Type 0 where
-  pub walked : past ≡ take i H
-  pub legal : Legal (take i H)
-  pub told : slots.past ≡ take i H
-
-pub nothing_legal : Legal []
-unfolding Legal
-nothing_legal [] e rest whole = absurd (cc)
-nothing_legal (f ∷ P) e rest whole = absurd (cc)
-
-pub walk_start : (H past : List Entry) (slots : PastSlots) → past ≡ [] → slots.past ≡ [] → IsWalked H 0 past slots
-walk_start H past slots none told = record { walked = none; legal = nothing_legal; told = told }
-
-module _ (H before : List Entry) (i : ℕ) (e : Entry) (within : i < length H) (at : e ≡ get_or H i e) (same : before ≡ take i H) where
-  more : take (i + 1) H ≡ before ++ e ∷ []
-  more = take_more H i e within ∙ (ap (λ x. take i H ++ x ∷ []) (sym at) ∙ ap (λ l. l ++ e ∷ []) (sym same))
-
-  pub walk_on : (past : List Entry) (slots : PastSlots) → Legal (take i H) → past ≡ before ++ e ∷ [] → Follows before e
-      → slots.past ≡ before ++ e ∷ [] → IsWalked H (i + 1) past slots
-  walk_on past slots legal added follows told = record {
-    walked = added ∙ sym more;
-    legal = rw more (legal_push before e (rw same legal) follows);
-    told = told ∙ sym more;
-  }
-
-  pub fault_at : Legal (take i H) → (Follows before e → ⊥) → IsFaultAt H i
-  fault_at legal refused = record {
-    within = within;
-    before = legal;
-    fault = λ l. refused (follows_last before e (rw more at l));
-  }
+pub fault_at : (H before : List Entry) (i : ℕ) (e : Entry) → i < length H → e ≡ get_or H i e → before ≡ take i H
+    → Legal (take i H) → (Follows before e → ⊥) → IsFaultAt H i
+fault_at H before i e within at same legal refused = record {
+  within = within;
+  before = legal;
+  fault = λ l. refused (follows_last before e (rw (one_more H before i e within at same) at l));
+}
 
 pub walked_whole : (H past : List Entry) (i : ℕ) (slots : PastSlots) → length H ≤ i → IsWalked H i past slots → slots.past ≡ H
 walked_whole H past i slots all walked = walked.told ∙ take_all i H all

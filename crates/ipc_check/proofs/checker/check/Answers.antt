@@ -1,5 +1,6 @@
 use Rattle.std.proofs.Common.{sym, ap, ◌∙◌, ◌++◌, ◌∷◌, []}
-use Rattle.ipc_check.proofs.Walks.{fault_at, fault_whole, no_is_not_yes, walk_on, walk_start}
+use Rattle.ipc_threads.proofs.Walks.{walk_on, walk_start}
+use Rattle.ipc_check.proofs.Walks.{fault_at, fault_whole, no_is_not_yes}
 use Rattle.ipc_check.proofs.checker.check.Goals as goal
 
 pub loop-index-init : goal.loop-index-init

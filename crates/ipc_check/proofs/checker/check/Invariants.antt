@@ -1,4 +1,4 @@
-use Rattle.ipc_check.proofs.Walks.{IsWalked}
+use Rattle.ipc_threads.proofs.Walks.{IsWalked}
 use Rattle.ipc_check.proofs.checker.check.Given as goal
 
 abbrev pub invariant-loop-index : goal.invariant-loop-index

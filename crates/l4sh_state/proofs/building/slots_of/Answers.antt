@@ -1,5 +1,6 @@
 use Rattle.std.proofs.Common.{sym, ap, ◌∙◌, ◌++◌, ◌∷◌, []}
-use Rattle.l4sh_state.proofs.Walks.{fault_at, walk_on, walk_start}
+use Rattle.ipc_threads.proofs.Walks.{walk_on, walk_start}
+use Rattle.l4sh_state.proofs.Walks.{fault_at}
 use Rattle.l4sh_state.proofs.building.slots_of.Goals as goal
 
 pub loop-index-init : goal.loop-index-init

@@ -1,4 +1,4 @@
-use Rattle.l4sh_state.proofs.Walks.{IsWalked}
+use Rattle.ipc_threads.proofs.Walks.{IsWalked}
 use Rattle.l4sh_state.proofs.building.slots_of.Given as goal
 
 abbrev pub invariant-loop-index : goal.invariant-loop-index

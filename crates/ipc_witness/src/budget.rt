@@ -1,5 +1,5 @@
 // The calls that a part counts and does not keep: how many of them each thread has to make.
-use super::wanted::Wanted;
+use crate::wanted::Wanted;
 use ipc_history::{Entry, Input};
 use ipc_words::ThreadId;
 use ipc_words::limits::TABLE_SLOTS;
@@ -7,11 +7,11 @@ use std::alloc::{AllocError, Global};
 
 /// All threads that have ended at the end, as one maker of calls. A thread that lives then is the
 /// maker of its number.
-pub(super) const OTHERS: usize = 0;
+pub(crate) const OTHERS: usize = 0;
 
 /// How many calls are left to be made of those that are not kept.
 #[derive(Drop)]
-pub(super) struct Budget {
+pub(crate) struct Budget {
     /// By thread number.
     numbers: Vec<Own>,
     /// Of threads that have ended.

@@ -1,7 +1,7 @@
 // Calls that are ended, of which a part keeps no end: those that count as over, and those that it
 // tells to have failed.
-use super::calls::sending_call;
-use super::guide::{Guide, Turn, is_receiving, live};
+use crate::calls::sending_call;
+use crate::guide::{Guide, Turn, is_receiving, live};
 use ipc_history::{Entry, Input, Output};
 use ipc_threads::{Slots, Standing};
 use ipc_waits::is_free;
@@ -11,7 +11,7 @@ use std::alloc::AllocError;
 
 impl Guide<'_> {
     /// Ends a call that is open and that no kept entry needs any more, where that is possible.
-    pub(super) fn end_call(&mut self, slots: &Slots) -> Result<Option<Entry>, AllocError> {
+    pub(crate) fn end_call(&mut self, slots: &Slots) -> Result<Option<Entry>, AllocError> {
         for number in 1..TABLE_SLOTS {
             if let Some(call) = slots.call_at(number) {
                 if !self.is_wanted(&call) {
@@ -74,7 +74,7 @@ impl Guide<'_> {
     }
 
     /// What brings an output that is kept and does not come by itself.
-    pub(super) fn bring(&mut self, slots: &Slots, output: &Output) -> Result<Turn, AllocError> {
+    pub(crate) fn bring(&mut self, slots: &Slots, output: &Output) -> Result<Turn, AllocError> {
         match output {
             Output::Failed(number, code) => self.fail(slots, *number, *code),
             Output::Aborted(sending, _, _) => self.fail(

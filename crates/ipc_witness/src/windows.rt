@@ -1,7 +1,7 @@
 // Between which kept calls who is free to make another one, as far as the kept entries tell.
-use super::budget::{Budget, OTHERS};
-use super::messages::Messages;
-use super::wanted::Wanted;
+use crate::budget::{Budget, OTHERS};
+use crate::messages::Messages;
+use crate::wanted::Wanted;
 use ipc_history::{Entry, Input};
 use ipc_words::limits::{MAX_THREAD_NUMBER, TABLE_SLOTS};
 use ipc_words::{ThreadId, next_version};
@@ -10,7 +10,7 @@ use std::alloc::{AllocError, Global};
 /// The gaps in which a maker of calls is free, from the first to the last one. A gap is what comes
 /// between a kept call and the next one, counted from 0.
 #[derive(Clone, Copy)]
-pub(super) struct Window {
+pub(crate) struct Window {
     pub maker: usize,
     pub first: usize,
     pub last: usize,
@@ -18,7 +18,7 @@ pub(super) struct Window {
 
 /// The windows of all makers, and at which places a thread can be there that is to end.
 #[derive(Drop)]
-pub(super) struct Windows {
+pub(crate) struct Windows {
     pub windows: Vec<Window>,
     pub others: Vec<bool>,
 }
@@ -48,7 +48,7 @@ struct Survey<'a> {
 }
 
 /// The windows of the threads, without those that wait for a message.
-pub(super) fn find_windows(
+pub(crate) fn find_windows(
     alloc: Global,
     wanted: Wanted<'_>,
     budget: &Budget,

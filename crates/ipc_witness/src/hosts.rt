@@ -1,7 +1,7 @@
 // Who makes the calls that a part counts and does not keep.
-use super::budget::OTHERS;
-use super::calls::empty_call;
-use super::guide::{Guide, Turn, live};
+use crate::budget::OTHERS;
+use crate::calls::empty_call;
+use crate::guide::{Guide, Turn, live};
 use ipc_threads::Slots;
 use ipc_waits::is_free;
 use ipc_words::ThreadId;
@@ -10,7 +10,7 @@ use std::alloc::AllocError;
 
 impl Guide<'_> {
     /// A call that a part counts and does not keep, or a thread that can make it.
-    pub(super) fn fill(&mut self, slots: &Slots) -> Result<Turn, AllocError> {
+    pub(crate) fn fill(&mut self, slots: &Slots) -> Result<Turn, AllocError> {
         if let Some(turn) = self.next_call(slots)? {
             return Ok(turn);
         }
@@ -36,7 +36,7 @@ impl Guide<'_> {
     }
 
     /// The next call, by a thread that is to end.
-    pub(super) fn next_of_others(&mut self, slots: &Slots) -> Result<Option<Turn>, AllocError> {
+    pub(crate) fn next_of_others(&mut self, slots: &Slots) -> Result<Option<Turn>, AllocError> {
         for number in 1..TABLE_SLOTS {
             if let Some(thread) = live(slots, number) {
                 if self.is_host(slots, thread) && !self.budget.lasts(thread) {
@@ -48,7 +48,7 @@ impl Guide<'_> {
     }
 
     /// Whether threads that are to end make calls in this gap.
-    pub(super) fn has_others(&self) -> bool {
+    pub(crate) fn has_others(&self) -> bool {
         self.allotment.count(OTHERS, self.gap) > 0
     }
 
@@ -69,7 +69,7 @@ impl Guide<'_> {
     }
 
     /// Whether a thread is to make a call in this gap.
-    pub(super) fn has_share(&self, thread: ThreadId) -> bool {
+    pub(crate) fn has_share(&self, thread: ThreadId) -> bool {
         self.allotment.count(self.budget.maker_of(thread), self.gap) > 0
     }
 
@@ -84,7 +84,7 @@ impl Guide<'_> {
     }
 
     /// A thread makes a call in this gap that it is to make; false where there is none.
-    pub(super) fn spend(&mut self, thread: ThreadId) -> bool {
+    pub(crate) fn spend(&mut self, thread: ThreadId) -> bool {
         let maker = self.budget.maker_of(thread);
         if self.allotment.count(maker, self.gap) == 0 || !self.budget.take(thread) {
             return false;
@@ -119,7 +119,7 @@ impl Guide<'_> {
 
     /// A thread makes a call in this gap, in place of one that it was to make in another one; false
     /// where it can not.
-    pub(super) fn spend_now(&mut self, thread: ThreadId) -> Result<bool, AllocError> {
+    pub(crate) fn spend_now(&mut self, thread: ThreadId) -> Result<bool, AllocError> {
         self.allotment.begin_again(self.gap);
         let has_room = self.allotment.narrow(self.gap);
         let is_taken = has_room && self.budget.take(thread);

@@ -1,13 +1,13 @@
 // The messages of kept calls that count as over, where no kept entry tells who received them: the
 // receiver makes a call for it that is not kept.
-use super::wanted::Wanted;
+use crate::wanted::Wanted;
 use ipc_history::{Call, Entry, Input};
 use ipc_words::{Period, ThreadId};
 use std::alloc::{AllocError, Global};
 
 /// A message that is to be received, and where among the kept entries that may be.
 #[derive(Clone, Copy)]
-pub(super) struct Message {
+pub(crate) struct Message {
     /// Who receives it.
     pub thread: ThreadId,
     /// The place of the call that sends it.
@@ -27,7 +27,7 @@ pub(super) struct Message {
 
 /// A kept call that counts as over and receives the message of another one.
 #[derive(Clone, Copy)]
-pub(super) struct Pair {
+pub(crate) struct Pair {
     /// The number of the call that receives it.
     pub number: u64,
     /// The place of the call that sends it.
@@ -36,7 +36,7 @@ pub(super) struct Pair {
 
 /// The messages of kept calls of which no kept entry tells that they were received.
 #[derive(Drop)]
-pub(super) struct Messages {
+pub(crate) struct Messages {
     /// Those that another kept call receives.
     pub pairs: Vec<Pair>,
     /// The others, for each of which a call is made that is not kept.
@@ -45,7 +45,7 @@ pub(super) struct Messages {
 
 /// The messages, in the order of their calls. No kept call receives those of the calls at these
 /// places, nor are they answers.
-pub(super) fn find_messages(
+pub(crate) fn find_messages(
     alloc: Global,
     wanted: Wanted<'_>,
     apart: &[usize],

@@ -1,5 +1,5 @@
 // Threads that live only for a while: those of versions of which a part keeps nothing.
-use super::guide::{Guide, Turn, live};
+use crate::guide::{Guide, Turn, live};
 use ipc_history::{Call, Entry, Input};
 use ipc_threads::Slots;
 use ipc_words::ThreadId;
@@ -9,7 +9,7 @@ use std::alloc::AllocError;
 impl Guide<'_> {
     /// What comes before a thread opens: the calls of those that are to end by then, the end of who
     /// has its number, the versions before it.
-    pub(super) fn make_way(
+    pub(crate) fn make_way(
         &mut self,
         slots: &Slots,
         thread: ThreadId,
@@ -31,7 +31,7 @@ impl Guide<'_> {
     }
 
     /// The calls of threads that are to end, where they can not be made later.
-    pub(super) fn end_others(&mut self, slots: &Slots) -> Result<Option<Turn>, AllocError> {
+    pub(crate) fn end_others(&mut self, slots: &Slots) -> Result<Option<Turn>, AllocError> {
         if self.is_closing() {
             self.next_of_others(slots)
         } else {
@@ -40,12 +40,12 @@ impl Guide<'_> {
     }
 
     /// A thread opens that is to end, and can make calls.
-    pub(super) fn open_other(&self, slots: &Slots) -> Option<Turn> {
+    pub(crate) fn open_other(&self, slots: &Slots) -> Option<Turn> {
         Some(Turn::Entry(self.spare(slots, self.wanted.space())?))
     }
 
     /// A thread opens in a space that is to end.
-    pub(super) fn spare(&self, slots: &Slots, space: u64) -> Option<Entry> {
+    pub(crate) fn spare(&self, slots: &Slots, space: u64) -> Option<Entry> {
         for number in 1..=MAX_THREAD_NUMBER {
             if slots.is_taken(number) {
                 continue;
@@ -69,7 +69,7 @@ impl Guide<'_> {
 
     /// What comes for a thread to be live that is to end: it opens, in the space of another one, or
     /// those before it come and go.
-    pub(super) fn open_for(
+    pub(crate) fn open_for(
         &self,
         slots: &Slots,
         thread: ThreadId,
@@ -95,7 +95,7 @@ impl Guide<'_> {
     }
 
     /// A thread opens for which a kept call is to wait, and that is to end.
-    pub(super) fn open_partner(
+    pub(crate) fn open_partner(
         &self,
         slots: &Slots,
         place: usize,
@@ -127,7 +127,7 @@ impl Guide<'_> {
     }
 
     /// Behind the last kept entry: the calls that are left, and the versions.
-    pub(super) fn close(&mut self, slots: &Slots) -> Result<Turn, AllocError> {
+    pub(crate) fn close(&mut self, slots: &Slots) -> Result<Turn, AllocError> {
         if slots.calls_made() < self.wanted.base.calls() {
             return self.fill(slots);
         }

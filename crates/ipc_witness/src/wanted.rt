@@ -5,7 +5,7 @@ use ipc_words::{ErrorKind, ThreadId};
 
 /// The base and the kept entries of a part.
 #[derive(Clone, Copy)]
-pub(super) struct Wanted<'a> {
+pub(crate) struct Wanted<'a> {
     pub base: &'a Base,
     pub kept: &'a [Entry],
 }

@@ -1,16 +1,16 @@
 // The steps to a history that ends as a part says, and who makes the calls between them.
-use super::allotment::Allotment;
-use super::budget::Budget;
-use super::messages::{Message, Messages, Pair, find_messages};
-use super::wanted::Wanted;
-use super::windows::{Windows, find_windows};
+use crate::allotment::Allotment;
+use crate::budget::Budget;
+use crate::messages::{Message, Messages, Pair, find_messages};
+use crate::wanted::Wanted;
+use crate::windows::{Windows, find_windows};
 use ipc_words::ThreadId;
 use ipc_words::limits::TABLE_SLOTS;
 use std::alloc::{AllocError, Global};
 
 /// A step to a history.
 #[derive(Clone, Copy)]
-pub(super) enum Step {
+pub(crate) enum Step {
     /// The kept entry at this place comes.
     Kept(usize),
     /// A thread waits for the message of a kept call that counts as over.
@@ -19,7 +19,7 @@ pub(super) enum Step {
 
 /// A call that receives the message of a kept call.
 #[derive(Clone, Copy)]
-pub(super) struct Receipt {
+pub(crate) struct Receipt {
     /// Who receives it.
     pub thread: ThreadId,
     /// The place of the sending call among the kept entries.
@@ -32,7 +32,7 @@ pub(super) struct Receipt {
 
 /// The steps, and the calls between them.
 #[derive(Drop)]
-pub(super) struct Plan {
+pub(crate) struct Plan {
     pub budget: Budget,
     pub steps: Vec<Step>,
     /// The kept calls that receive messages of kept calls, of which no kept entry tells.
@@ -46,7 +46,7 @@ pub(super) struct Plan {
 
 /// The kept entries in their order, with a call that receives for each message of which they do not
 /// tell that it is received; and who makes the other calls in which gap.
-pub(super) fn make_plan(alloc: Global, wanted: Wanted<'_>) -> Result<Plan, AllocError> {
+pub(crate) fn make_plan(alloc: Global, wanted: Wanted<'_>) -> Result<Plan, AllocError> {
     let mut apart = Vec::new(alloc);
     let mut best = draft(alloc, wanted, apart.as_slice())?;
     for place in 0..wanted.kept.len() {

@@ -6,7 +6,7 @@ use ipc_words::{MsgTag, Period, ThreadId};
 use std::alloc::{AllocError, Global};
 
 /// A call of this number without a phase: it is over at once.
-pub(super) fn empty_call(
+pub(crate) fn empty_call(
     alloc: Global,
     number: u64,
     caller: ThreadId,
@@ -16,7 +16,7 @@ pub(super) fn empty_call(
 }
 
 /// A call that sends an empty message.
-pub(super) fn sending_call(
+pub(crate) fn sending_call(
     alloc: Global,
     number: u64,
     caller: ThreadId,
@@ -27,7 +27,7 @@ pub(super) fn sending_call(
 }
 
 /// A call that receives the message of another one from a thread, behind one that it sends.
-pub(super) fn receiving_call(
+pub(crate) fn receiving_call(
     alloc: Global,
     number: u64,
     caller: ThreadId,
@@ -86,7 +86,7 @@ fn entered(
 }
 
 /// An entry again: each has a line of its own.
-pub(super) fn copied(alloc: Global, entry: &Entry) -> Result<Entry, AllocError> {
+pub(crate) fn copied(alloc: Global, entry: &Entry) -> Result<Entry, AllocError> {
     let line = entry_line(alloc, entry)?;
     match read_entry(alloc, line.as_bytes()) {
         Ok(entry) => Ok(entry),

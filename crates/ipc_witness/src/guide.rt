@@ -1,10 +1,11 @@
 // What comes next of a history that is to end as a part says.
-use super::allotment::Allotment;
-use super::budget::Budget;
-use super::calls::{copied, receiving_call};
-use super::messages::Pair;
-use super::plan::{Plan, Receipt, Step, make_plan};
-use super::wanted::Wanted;
+use crate::allotment::Allotment;
+use crate::budget::Budget;
+use crate::calls::{copied, receiving_call};
+use crate::messages::Pair;
+use crate::plan::{Plan, Receipt, Step, make_plan};
+use crate::wanted::Wanted;
+use ipc_compact::Base;
 use ipc_history::{Call, Entry, Input, Output};
 use ipc_threads::{Phase, Slots, Standing};
 use ipc_waits::is_free;
@@ -12,9 +13,12 @@ use ipc_words::ThreadId;
 use ipc_words::limits::TABLE_SLOTS;
 use std::alloc::{AllocError, Global};
 
+/// How many entries come before those are let go of that nothing needs.
+const ENTRIES_HELD: u32 = 4_096;
+
 /// What comes next.
 #[derive(Drop)]
-pub(super) enum Turn {
+pub enum Turn {
     /// This entry.
     Entry(Entry),
     /// Nothing: what nothing needs is let go of.
@@ -27,40 +31,46 @@ pub(super) enum Turn {
     Done,
 }
 
-/// Where the search for a history stands.
+/// Where the search for a history stands, which begins with the empty one and is to end with this
+/// base and these kept entries.
 #[derive(Drop)]
-pub(super) struct Guide<'a> {
-    pub(super) alloc: Global,
-    pub(super) wanted: Wanted<'a>,
-    pub(super) budget: Budget,
+pub struct Guide<'a> {
+    pub(crate) alloc: Global,
+    pub(crate) wanted: Wanted<'a>,
+    pub(crate) budget: Budget,
     /// Who makes which of the calls that are left.
-    pub(super) allotment: Allotment,
+    pub(crate) allotment: Allotment,
     /// How many of them nobody can make, as far as the kept entries tell.
-    pub(super) missing: u64,
+    pub(crate) missing: u64,
     /// At each place among the kept entries, whether a thread can be there that is to end.
     others: Vec<bool>,
     steps: Vec<Step>,
     /// The step that comes next.
     at: usize,
     /// How many kept entries have come.
-    pub(super) passed: usize,
+    pub(crate) passed: usize,
     /// How many kept calls have come.
-    pub(super) gap: usize,
+    pub(crate) gap: usize,
     /// The calls that wait for the messages of kept ones.
     waiters: Vec<Pair>,
     /// Who makes the calls that are left, up to the next step.
-    pub(super) host: Option<ThreadId>,
+    pub(crate) host: Option<ThreadId>,
     /// Whether no call is to be ended, unless something comes.
     is_settled: bool,
     /// The thread numbers below it are at their end.
-    pub(super) ended: u32,
+    pub(crate) ended: u32,
     /// How many entries came since some were let go of.
     held: u32,
 }
 
 impl<'a> Guide<'a> {
     /// Before the first entry.
-    pub fn new(alloc: Global, wanted: Wanted<'a>) -> Result<Guide<'a>, AllocError> {
+    ///
+    /// # Errors
+    ///
+    /// Where memory is refused.
+    pub fn new(alloc: Global, base: &'a Base, kept: &'a [Entry]) -> Result<Guide<'a>, AllocError> {
+        let wanted = Wanted { base, kept };
         let Plan {
             budget,
             steps,
@@ -89,8 +99,12 @@ impl<'a> Guide<'a> {
     }
 
     /// What comes next of the history with these slots, of which this output is still to come.
+    ///
+    /// # Errors
+    ///
+    /// Where memory is refused.
     pub fn turn(&mut self, slots: &Slots, output: Option<Output>) -> Result<Turn, AllocError> {
-        if self.held >= super::ENTRIES_HELD {
+        if self.held >= ENTRIES_HELD {
             self.held = 0;
             return Ok(Turn::LetGo);
         }
@@ -233,7 +247,7 @@ impl<'a> Guide<'a> {
     }
 
     /// Whether an open call is to stay open, at least for now.
-    pub(super) fn is_wanted(&self, call: &Standing) -> bool {
+    pub(crate) fn is_wanted(&self, call: &Standing) -> bool {
         if self.budget.is_last(call.caller, call.number) {
             return true;
         }
@@ -252,7 +266,7 @@ impl<'a> Guide<'a> {
     }
 
     /// Whether threads that are to end make calls now that they can not make later in this gap.
-    pub(super) fn is_closing(&self) -> bool {
+    pub(crate) fn is_closing(&self) -> bool {
         if !self.has_others() {
             return false;
         }
@@ -278,7 +292,7 @@ impl<'a> Guide<'a> {
 }
 
 /// The live thread of a number.
-pub(super) fn live(slots: &Slots, number: usize) -> Option<ThreadId> {
+pub(crate) fn live(slots: &Slots, number: usize) -> Option<ThreadId> {
     if number < TABLE_SLOTS {
         slots.thread_at(number)
     } else {
@@ -299,6 +313,6 @@ fn shown(slots: &Slots, caller: ThreadId, call: &Call) -> ThreadId {
 }
 
 /// Whether an open call waits to receive.
-pub(super) fn is_receiving(call: &Standing) -> bool {
+pub(crate) fn is_receiving(call: &Standing) -> bool {
     matches!(call.phase, Phase::Receiving)
 }

@@ -1,7 +1,7 @@
 // Who makes how many of the calls that are not kept in which gap: as many as there is room for,
 // each where its maker is free.
-use super::budget::Budget;
-use super::windows::Window;
+use crate::budget::Budget;
+use crate::windows::Window;
 use ipc_words::limits::TABLE_SLOTS;
 use std::alloc::{AllocError, Global};
 
@@ -16,7 +16,7 @@ struct Share {
 /// The calls that are allotted. More are by a search for a path: a maker takes a place in a gap of
 /// one that has a place elsewhere.
 #[derive(Drop)]
-pub(super) struct Allotment {
+pub(crate) struct Allotment {
     windows: Vec<Window>,
     shares: Vec<Share>,
     /// By gap how many calls nobody makes so far.

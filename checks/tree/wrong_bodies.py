@@ -1,5 +1,5 @@
 #!/usr/bin/env python3
-"""checks/tree/wrong_bodies.py [--promised | --proved] [CRATE ..]: tries the wrong bodies of crates/CRATE/wrong, many in one check.
+"""checks/tree/wrong_bodies.py [--promised | --proved] [CRATE[/EDIT] ..]: tries the wrong bodies of crates/CRATE/wrong, many in one check.
 
 An edit stands in wrong/ in the format of must-fail/: a line `file: src/lib.rt`, then pairs of lines `old: TEXT` and `new: TEXT`. `rt ci` tries
 those of must-fail/ one by one, each with all proofs of its crate. Those of wrong/ are tried here, before a landing that touches the crate. Those of
@@ -8,14 +8,17 @@ docs/PROMISES.md says of each crate (--proved): one that is refused now goes to 
 
 Each function is proved by the contracts of those that it calls. So edits of different functions do not touch each other, and one check tries one
 edit of each function; it asks for the proofs of these functions alone. An edit of a definition says by lines `only: PATH` which proofs shall fall;
-without one all proofs of its crate are asked for. An edit is refused where a goal of its function is not proved. Where the function is only not
-proved because one that it calls is not, nothing is known, and it is tried again without that one. Where its proof wants that of another function, which
-was not asked for, it is tried again with that one. A body that the toolchain cannot read yet shows nothing: the edit has to be written another way.
-A crate whose name begins with tests_ is checked with its tests.
+without one all proofs of its crate are asked for. An edit is refused where a goal of a contract is not proved of its function: what it ensures, an
+invariant, or what one that it calls requires. Two others say little of the contract: `names`, where a proof file only names what the edit took away, or
+a proof by hand no longer fits, and `safety`, where only a sum, an index or an end of a loop is not proved: change a value there and keep the names.
+Where the function is only not proved because one that it calls is not, nothing is known, and it is tried again without that one. Where its proof wants
+that of another function, which was not asked for, it is tried again with that one. A body that the toolchain cannot read yet shows nothing: the edit
+has to be written another way. A crate whose name begins with tests_ is checked with its tests.
 
 It needs the kit's command rt, whose modules it uses, and changes no source. The crates below are built first where they are not; with --promised the
-libraries that the gate has just made are taken. It prints a line for each edit, and the goal that refused it. Its last line is
-`N refused, M passed`; the status is 1 where one passed or could not be tried, with --proved where one was refused.
+libraries that the gate has just made are taken. It prints a line for each edit, with the path of its function and the goal that refused it, and a
+line for how many were refused by names or for safety alone. Its last line is `N refused, M passed`; the status is 1 where one passed or could not be
+tried, or one of wrong/promised was refused so alone, with --proved where one was refused.
 """
 
 import glob
@@ -35,7 +38,17 @@ STATUS = re.compile(r"^(fn|struct|enum|const|impl) ")
 UNASKED = re.compile(r"the borrow checker's part.*\ba call of `?([\w:+]+)`?, which has no proof")
 UNCOVERED = "the borrow checker does not cover this function yet"
 OF_TESTS = "tests_"
-BLOCKED = re.compile(r": no proof: it calls .*which (is|are) not proved$")
+BLOCKED = re.compile(r"no proof: it calls .*which (is|are) not proved$")
+# A proof of one function alone, which an edit changes with its body.
+OF_FUNCTION = re.compile(r"proofs/\S+/")
+NOT_PROVED = re.compile(r"no(t proved| proof)")
+# A goal that no proof was found of, before the line of its function, and what is wrong in a proof file.
+GOAL = re.compile(r"note: \S+: (it is not proved .*) \(`(\S+)`\)")
+FAULT = re.compile(r"(?:note: )?(?:\./)?proofs/(\S+)/([A-Z]\w*)\.antt:\d+:\d+: (?:error: )?(?:`([^`]*)`: )?(.*)")
+# As rt must-fail tells a proof file that names what the edit took away, and what cites that proof.
+NAMES = re.compile(r"has no field|is not in scope|has no `|was not admitted")
+ALONE = ("names", "safety")
+SAFETY = re.compile(r"(overflow|nonzero|bounds|slice_bounds|offset_bounds)[_-]|.*-smaller$")
 
 
 class Edit:
@@ -43,6 +56,7 @@ class Edit:
 
     def __init__(self, crate, path):
         self.name = os.path.basename(path)[: -len(".edit")]
+        self.is_promised = os.path.basename(os.path.dirname(path)) == "promised"
         with open(path) as it:
             lines = it.read().split("\n")
         self.changes = list(self.read(lines))
@@ -55,9 +69,10 @@ class Edit:
             if text.count(old) != 1:
                 sys.exit(f"wrong_bodies: {crate.name}/{self.name}: its text stands {text.count(old)} times in {file}")
             owner, name = self.function_at(text, text.index(old))
-            self.functions.add((file, name))
+            if not OF_FUNCTION.match(file):
+                self.functions.add((file, owner, name))
             if name and file.startswith("src/") and not self.is_told:
-                self.paths.add("::".join([*([owner] if owner else module_of(file)), name]))
+                self.paths.add("::".join(path_of(file, owner, name)))
             texts[file] = text.replace(old, new)
 
     @staticmethod
@@ -95,7 +110,7 @@ class Edit:
         return len(self.paths) > known
 
     def stands_alone(self):
-        return self.is_told or any(name is None or not file.startswith("src/") for file, name in self.functions)
+        return self.is_told or any(name is None or not file.startswith("src/") for file, _, name in self.functions)
 
 
 def groups(edits):
@@ -119,46 +134,73 @@ def module_of(file):
     return [] if path in ("lib", "main") else path.split("/")
 
 
-def verdict(edit, output, is_proved):
-    """`refused`, `passed`, `blocked`, `unasked` or `unread`, and the line that says so."""
-    lines = [line for line in output.split("\n") if STATUS.match(line)]
-    if not lines:
-        said = next((line for line in output.split("\n") if ": error" in line), output[:200])
-        return "unread", said
-    found = []
-    for file, name in edit.functions:
-        if name is None or not file.startswith("src/"):
-            broken = [line for line in lines if "no proof" in line and not BLOCKED.search(line)]
-            found.append(("passed", "") if is_proved else ("refused", broken[0] if broken else "not proved"))
-            continue
-        mine = [line for line in lines if re.match(rf"fn \S*::{name}: ", line)]
-        close = [line for line in mine if all(f"::{part}::" in line or f"++{part}" in line for part in module_of(file)[-1:])]
-        broken = [line for line in close or mine if ": no proof" in line or ": not proved" in line]
-        goals = [line for line in broken if not BLOCKED.search(line)]
-        uncovered = [line for line in goals if UNCOVERED in line]
-        unasked = [line for line in goals if UNASKED.search(line)]
-        if uncovered or unasked:
-            found.append(("unread", uncovered[0]) if uncovered else ("unasked", unasked[0]))
-        elif goals:
-            found.append(("refused", goals[0]))
-        elif broken:
-            found.append(("blocked", broken[0]))
-        else:
-            found.append(("passed", (close or mine or [f"{name} is not listed"])[0]))
-    for kind in ("unread", "refused", "unasked", "blocked", "passed"):
-        for known, said in found:
-            if known == kind:
-                return kind, said
-    return "unread", "it changes no function"
+def path_of(file, owner, name):
+    """The end of a function's path, as the kit spells it: a method stands at its type, whatever file it is in."""
+    return [*([owner] if owner else module_of(file)), name]
 
 
-def goal_of(edit, output):
-    """The first goal of a proof file of the functions of this edit that was not met, where one is named."""
-    for _, name in edit.functions:
+class Said:
+    """What a check says: of each function a line, the goals that were not proved, and what is wrong in its proof files."""
+
+    def __init__(self, output):
+        self.words, self.goals, self.faults = {}, {}, {}
+        self.is_read = False
+        noted = []
         for line in output.split("\n"):
-            if name and re.match(rf"\S*proofs/\S*/{name}/\S+: error", line):
-                return line
-    return ""
+            self.is_read = self.is_read or bool(STATUS.match(line))
+            if goal := GOAL.match(line):
+                noted.append((goal[2], goal[1]))
+            elif fault := FAULT.match(line):
+                self.faults.setdefault(fault[1], []).append((fault[2], fault[3] or "", fault[4]))
+            elif line.startswith("fn "):
+                symbol, _, words = line[3:].partition(": ")
+                self.words[symbol], self.goals[symbol], noted = words, noted, []
+
+    def symbols_of(self, file, owner, name):
+        """The paths of a function and of the closures in it; of all of that name where none has its path."""
+        end, found = path_of(file, owner, name), []
+        for symbol in self.words:
+            path = symbol.split("::")[1:]
+            inside = path.index("fn") if "fn" in path else len(path)
+            within = path[inside + 1 :] if owner else path[:inside] + path[inside + 1 :]
+            if path[inside:] and within[: len(end)] == end or not path[inside:] and (path[-len(end) :] if owner else path) == end:
+                found.append(symbol)
+        return found or [it for it in self.words if it.endswith(f"::{name}")]
+
+    def kind_of(self, symbol):
+        """Why a function is not proved: a kind of `verdict`, and what says so."""
+        words = self.words[symbol]
+        if not NOT_PROVED.match(words):
+            return "passed", f"{symbol}: {words}"
+        for kind, is_so in (("blocked", BLOCKED.search(words)), ("unread", UNCOVERED in words), ("unasked", UNASKED.search(words))):
+            if is_so:
+                return kind, f"{symbol}: {words}"
+        faults = self.faults.get("/".join(symbol.split("::")[1:]), [])
+        by_names = [(name, text) for file, name, text in faults if file == "Proof" or NAMES.search(text)]
+        goals = self.goals[symbol] + [it[1:] for it in faults if it[1:] not in by_names]
+        for kind, found in (("refused", [it for it in goals if not SAFETY.match(it[0])]), ("names", by_names), ("safety", goals)):
+            if found:
+                return kind, f"{symbol}: `{found[0][0]}`: {found[0][1]}"
+        return "names", f"{symbol}: {words}"
+
+
+def verdict(edit, output, is_proved):
+    """`refused`, `names`, `safety`, `passed`, `blocked`, `unasked` or `unread`, and what says so."""
+    said = Said(output)
+    if not said.is_read:
+        return "unread", next((line for line in output.split("\n") if ": error" in line), output[:200])
+    found = []
+    for file, owner, name in edit.functions:
+        if name is None or not file.startswith("src/"):
+            fallen = [said.kind_of(symbol) for symbol, words in said.words.items() if NOT_PROVED.match(words) and not BLOCKED.search(words)]
+            found += [("passed", "")] if is_proved else fallen or [("refused", "not proved")]
+        else:
+            found += [said.kind_of(it) for it in said.symbols_of(file, owner, name)] or [("passed", f"{name} is not listed")]
+    for kind in ("unread", "refused", "unasked", "blocked", "names", "safety", "passed"):
+        for known, words in found:
+            if known == kind:
+                return kind, words
+    return "unread", "it changes no function"
 
 
 def texts_of(crate, group):
@@ -181,8 +223,9 @@ def ran_with(rt, crate, group, kept):
 
 
 def try_crate(rt, crate, edits):
-    """Tries wrong bodies of one crate; answers how many were refused and how many were not, and a line of each."""
-    refused, lines = 0, []
+    """Tries wrong bodies of one crate; answers how many a goal refused, names or safety alone, and neither, and a line of each. So alone is not enough of
+    what is promised."""
+    kinds, lines = [], []
     waiting = list(groups(edits))
     with tempfile.TemporaryDirectory() as room:
         kept, own = f"{room}/kept", f"{crate.folder}/out/incremental"
@@ -201,10 +244,10 @@ def try_crate(rt, crate, edits):
                 if kind in ("blocked", "unread") and len(group) > 1:
                     waiting.append([edit])
                     continue
-                refused += kind == "refused"
-                goal = goal_of(edit, ran.stdout) if kind == "refused" else ""
-                lines.append(f"{kind.upper()} {crate.name}/{edit.name}: {said[:240]}{' | ' + goal[:240] if goal else ''}")
-    return refused, len(edits) - refused, lines
+                kinds.append("passed" if kind in ALONE and edit.is_promised else kind)
+                lines.append(f"{kind.upper()} {crate.name}/{edit.name}: {said[:400]}")
+    refused, alone = kinds.count("refused"), sum(it in ALONE for it in kinds)
+    return refused, alone, len(edits) - refused - alone, lines
 
 
 def is_of_gate(crate):
@@ -222,30 +265,33 @@ def main():
     os.chdir(ROOT)
     rt = kit("wrong_bodies")
     rt.rtlib.guarded()
-    named = [it for it in sys.argv[1:] if it not in ("--promised", "--proved")]
+    asked = [it.partition("/")[::2] for it in sys.argv[1:] if it not in ("--promised", "--proved")]
     is_promised, is_proved = "--promised" in sys.argv[1:], "--proved" in sys.argv[1:]
     crates = rt.rtlib.crates_below(os.getcwd())
-    unknown = [it for it in named if it not in [crate.name for crate in crates]]
+    unknown = [it for it, _ in asked if it not in [crate.name for crate in crates]]
     if unknown:
         sys.exit(f"wrong_bodies: {unknown[0]} is no crate")
     tasks = {}
     for crate in crates:
         places = ["proved/"] if is_proved else ["promised/"] if is_promised else ["promised/", ""]
         paths = [path for place in places for path in glob.glob(f"{crate.folder}/wrong/{place}*.edit")]
-        edits = [Edit(crate, path) for path in sorted(paths)] if not named or crate.name in named else []
+        names = {name for it, name in asked if it == crate.name} if asked else {""}
+        edits = [it for it in (Edit(crate, path) for path in sorted(paths) if names) if names & {"", it.name}]
         if not edits:
             continue
         if not (is_promised and all(map(is_of_gate, crate.below()))):
             build_below(crate)
         tasks[crate.name, "edits"] = ([], crate.count(rb"\n"), rt.need(crate), lambda given, jobs, crate=crate, edits=edits: told(try_crate(rt, crate, edits)))
     counts = rt.in_lanes(tasks).values()
-    refused, passed = sum(it[0] for it in counts), sum(it[1] for it in counts)
+    refused, alone, passed = (sum(it[kind] for it in counts) for kind in range(3))
+    if alone:
+        print(f"{alone} refused by names or for safety alone")
     print(f"{refused} refused, {passed} passed")
     return 1 if (refused if is_proved else passed) or not tasks else 0
 
 
 def told(result):
-    print(*result[2], sep="\n", flush=True)
+    print(*result[3], sep="\n", flush=True)
     return result
 
 

@@ -139,7 +139,7 @@ pub moves_some : {C P : Type 0} (before after : LoggedParts) (now : ℕ) (answer
     → Carries pens left → goes_on ≡ (is_moved answer && is_some (next_moving after.inside.kernel.history)) → MovesSome C P now goes_on
 moves_some before after now answer pens left goes_on turned acts carries is = record {
   answer = answer;
-  acts = acts_some before after now None Advance answer pens left turned acts carries;
+  acts = record { before = before; after = after; pens = pens; left = left; turned = turned; acts = acts; carries = carries };
   goes_on_is = is;
 }
 

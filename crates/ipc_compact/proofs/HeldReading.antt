@@ -28,7 +28,7 @@ use Rattle.ipc_compact.specs.Compact.{further_calls, is_among, is_further, is_ke
 use Rattle.ipc_compact.specs.Held.{CallsHeld, FurtherHeld, LiveHeld, SaysOf}
 use Rattle.ipc_compact.proofs.CallReading as there
 use Rattle.ipc_compact.proofs.KeepLemmas.{IsKept, any_kept_at, kept_was_there}
-use Rattle.ipc_compact.proofs.KeptTold.{among_called, filter_source}
+use Rattle.ipc_compact.proofs.KeptTold.{among_called, either_of, filter_source}
 use Rattle.ipc_threads.proofs.ThreadSteps.{broken_opened, no_space}
 use Rattle.ipc_compact.proofs.NewThread.{opened_before}
 use Rattle.ipc_compact.proofs.NotNeeded as needed
@@ -276,7 +276,7 @@ module _ (P X : List Entry) (taken later : List ℕ) (legal : Legal (P ++ X)) (g
       go false new = new_says n new c
 
   pub calls_held : (n : ℕ) → (is_among n (kept_calls H later) || is_among n (further_calls H later)) ≡ true → SaysOf (Kept ++ X) H n
-  calls_held n h = elim (needed.either_of (is_among n (kept_calls H later)) (is_among n (further_calls H later)) h) [
+  calls_held n h = elim (either_of (is_among n (kept_calls H later)) (is_among n (further_calls H later)) h) [
     | inl k ↦ says n (kept_made n k) (inl k)
     | inr f ↦ says n (further_made n f) (inr f)
   ]

@@ -1,5 +1,5 @@
 //! What is read of what stands under the lock.
-ghost use Rattle.std.specs.Prelude.{◌≡◌, ◌<◌, ◌||◌, Err, IfOk, is_some, length, slice_get};
+ghost use Rattle.std.specs.Prelude.{◌≡◌, ◌<◌, ◌&&◌, ◌||◌, Err, IfOk, is_some, length, slice_get};
 ghost use Rattle.std.specs.List.{list_any};
 ghost use mathlib.Core.List.{IsPrefix};
 ghost use Rattle.ipc_core.specs.KernelParts.{history_of};
@@ -131,11 +131,11 @@ impl<C: Naming, T: Ledger, P: PenPort + Drop> Logged<C, T, P> {
         self.inside.has_begun()
     }
 
-    /// Whether a call is in transfer.
-    pub(crate) fn is_copying(&self) -> bool
-        ensures { result ≡ is_some (next_moving self.now.inside.kernel.history) }
+    /// Whether a step goes on that has moved a block or not: a call is still in transfer.
+    pub(crate) fn goes_on(&self, has_moved: bool) -> bool
+        ensures { result ≡ (has_moved && is_some (next_moving self.now.inside.kernel.history)) }
     {
-        self.inside.is_copying()
+        has_moved && self.inside.is_copying()
     }
 
     /// Whether no transfer can begin any more.

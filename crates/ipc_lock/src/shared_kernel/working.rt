@@ -91,7 +91,7 @@ impl<C: Naming, T: Ledger, P: PenPort + Drop> SharedKernel<C, T, P> {
             Command::Advance,
             &mut errands,
         );
-        let goes_on = has_moved(&answered) && inside.is_copying();
+        let goes_on = inside.goes_on(has_moved(&answered));
         drop(inside);
         self.settle(rt, after, &mut errands);
         drop(answered);

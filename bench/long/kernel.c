@@ -1,9 +1,9 @@
 /* Gives the same random commands to two `l4sh run`, and compares all that they print.
 
-       kernel L4SH COMMANDS SEED ENTRIES NUMBERS REST
+       kernel SMALL GREAT COMMANDS SEED ENTRIES NUMBERS REST
 
-   One holds at most ENTRIES entries and is compacted before each command. The other one has the greatest limits, and is compacted only before each
-   REST commands, so that it stays below them. Thread numbers go to NUMBERS. Where one line differs, or a command is refused for want of room, the
+   That of the program SMALL holds at most ENTRIES entries and is compacted before each command. That of the program GREAT has the greatest limits,
+   and is compacted only before each REST commands, so that it stays below them. Thread numbers go to NUMBERS. Where one line differs, or a command is refused for want of room, the
    program tells it and ends with status 1. Its last line tells what was compared. */
 #define _GNU_SOURCE
 #include <fcntl.h>
@@ -194,10 +194,10 @@ static int is_answer(const char *line)
 
 int main(int count, char **words)
 {
-    if (count != 7)
-        return fprintf(stderr, "usage: kernel L4SH COMMANDS SEED ENTRIES NUMBERS REST\n"), 2;
-    uint64_t commands = strtoull(words[2], NULL, 10), entries = 0, refused = 0, most = 0, held = 0;
-    struct maker maker = {.state = strtoull(words[3], NULL, 10) * 0x9e3779b97f4a7c15u + 1, .numbers = atoi(words[5])};
+    if (count != 8)
+        return fprintf(stderr, "usage: kernel SMALL GREAT COMMANDS SEED ENTRIES NUMBERS REST\n"), 2;
+    uint64_t commands = strtoull(words[3], NULL, 10), entries = 0, refused = 0, most = 0, held = 0;
+    struct maker maker = {.state = strtoull(words[4], NULL, 10) * 0x9e3779b97f4a7c15u + 1, .numbers = atoi(words[6])};
     if (maker.numbers < 1 || maker.numbers > MOST_NUMBERS)
         return fprintf(stderr, "kernel: NUMBERS is 1 to %d\n", MOST_NUMBERS), 2;
     signal(SIGPIPE, SIG_IGN);
@@ -205,8 +205,8 @@ int main(int count, char **words)
     few.maker = all.maker = maker;
     few.commands = all.commands = commands;
     few.each = 1;
-    all.each = strtoull(words[6], NULL, 10);
-    char *few_words[] = {words[1], "run", "--entries", words[4], NULL}, *all_words[] = {words[1], "run", NULL};
+    all.each = strtoull(words[7], NULL, 10);
+    char *few_words[] = {words[1], "run", "--entries", words[5], NULL}, *all_words[] = {words[2], "run", NULL};
     begin(&few, few_words);
     begin(&all, all_words);
     pthread_t writers[2];
@@ -225,7 +225,7 @@ int main(int count, char **words)
             if (!read_line(&few) || !read_line(&all))
                 return printf("command %llu: one of them ended\n", (unsigned long long)k + 1), 1;
             if (strcmp(few.line, all.line))
-                return printf("command %llu: with %s entries: %swith all: %s", (unsigned long long)k + 1, words[4], few.line, all.line), 1;
+                return printf("command %llu: with %s entries: %swith all: %s", (unsigned long long)k + 1, words[5], few.line, all.line), 1;
             entries += !is_answer(few.line);
         } while (!is_answer(few.line));
         refused += few.line[0] == '!';

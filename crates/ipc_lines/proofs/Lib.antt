@@ -16,3 +16,4 @@ pub mod Options
 pub mod Spacing
 pub mod Lengths
 pub mod Longest
+pub mod Extending

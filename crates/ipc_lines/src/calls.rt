@@ -1,9 +1,10 @@
-ghost use Rattle.std.specs.Prelude.{◌≡◌, ◌++◌, OnOk, IfOk};
+ghost use Rattle.std.specs.Prelude.{◌≡◌, ◌++◌, ◌∷◌, [], OnOk, IfOk};
 ghost use Rattle.std.specs.String.{string_bytes};
+ghost use Rattle.ipc_lines.specs.Texts.{hex_text, id_text};
 ghost use Rattle.ipc_lines.specs.Lines.{timeouts_of, spaced, scalar_fields, list_fields, call_text};
 
 use crate::lists::{write_buffers, write_strings, write_words};
-use crate::scalars::{HexText, IdText, USUAL_LINE_BYTES};
+use crate::scalars::{USUAL_LINE_BYTES, write_hex, write_id};
 use ipc_history::Call;
 use ipc_words::{ThreadId, Timeouts};
 use std::alloc::{AllocError, Global};
@@ -15,21 +16,39 @@ fn timeouts(call: &Call) -> u64
     u64::from(Timeouts::of(call.receive_period(), call.send_period()).to_word())
 }
 
+// Appends the thread that calls, and those that it sends to and receives from.
+fn write_threads(out: &mut String, caller: ThreadId, call: &Call) -> Result<(), AllocError>
+    ensures { OnOk result (string_bytes out.new ≡ string_bytes out.old
+        ++ spaced (id_text caller ∷ id_text call.now.to ∷ id_text call.now.from ∷ [])) }
+{
+    write_id(out, caller)?;
+    out.push_str(" ")?;
+    write_id(out, call.to())?;
+    out.push_str(" ")?;
+    write_id(out, call.from())
+}
+
+// Appends the timeouts, the tag and the originator of a call.
+fn write_terms(out: &mut String, call: &Call) -> Result<(), AllocError>
+    ensures { OnOk result (string_bytes out.new ≡ string_bytes out.old
+        ++ spaced (hex_text (timeouts_of call.now) ∷ hex_text call.now.tag
+        ∷ id_text call.now.originator ∷ [])) }
+{
+    write_hex(out, timeouts(call))?;
+    out.push_str(" ")?;
+    write_hex(out, call.tag().to_word())?;
+    out.push_str(" ")?;
+    write_id(out, call.originator())
+}
+
 // Appends the six fields of a call that are one word each.
 fn write_scalars(out: &mut String, caller: ThreadId, call: &Call) -> Result<(), AllocError>
     ensures { OnOk result (string_bytes out.new
         ≡ string_bytes out.old ++ spaced (scalar_fields caller call.now)) }
 {
-    let to = IdText(call.to());
-    let from = IdText(call.from());
-    let timeouts = HexText(timeouts(call));
-    let tag = HexText(call.tag().to_word());
-    let originator = IdText(call.originator());
-    write!(
-        out,
-        "{} {to} {from} {timeouts} {tag} {originator}",
-        IdText(caller)
-    )
+    write_threads(out, caller, call)?;
+    out.push_str(" ")?;
+    write_terms(out, call)
 }
 
 // Appends the words, the strings and the buffers of a call.

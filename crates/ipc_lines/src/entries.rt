@@ -2,7 +2,7 @@ ghost use Rattle.std.specs.Prelude.{◌≡◌, ◌≤◌, ◌++◌, ◌∷◌, [
 ghost use Rattle.std.specs.Fmt.{decimal};
 ghost use Rattle.std.specs.String.{string_bytes};
 ghost use Rattle.ipc_history.specs.declared.entry.Entry.TheVariants.{Given, Written};
-ghost use Rattle.ipc_history.specs.declared.entry.Input.TheVariants.{Opened, Called, Exreg};
+ghost use Rattle.ipc_history.specs.declared.entry.Input.TheVariants.{At, Opened, Called, Exreg, Broke};
 ghost use Rattle.ipc_history.specs.declared.entry.Output.TheVariants.{Turned, Failed};
 ghost use Rattle.ipc_lines.specs.Limit.{most_bytes};
 ghost use Rattle.ipc_lines.specs.Lines.{entry_text, spaced};
@@ -10,7 +10,7 @@ ghost use Rattle.ipc_lines.specs.Reading.{IsReadable};
 
 use crate::calls::write_call;
 use crate::readable::entry_is_readable;
-use crate::scalars::{HexText, IdText, USUAL_LINE_BYTES};
+use crate::scalars::{USUAL_LINE_BYTES, write_decimal, write_hex, write_id};
 use ipc_history::{Call, Entry, Input, Output};
 use ipc_words::{IpcError, MaskedControl, ThreadId};
 use std::alloc::{AllocError, Global};
@@ -20,7 +20,11 @@ fn write_pair(out: &mut String, name: &str, first: u64, second: u64) -> Result<(
     ensures { OnOk result (string_bytes out.new
         ≡ string_bytes out.old ++ spaced (name.now ∷ decimal first ∷ decimal second ∷ [])) }
 {
-    write!(out, "{name} {first} {second}")
+    out.push_str(name)?;
+    out.push_str(" ")?;
+    write_decimal(out, first)?;
+    out.push_str(" ")?;
+    write_decimal(out, second)
 }
 
 // Appends a name and three numbers.
@@ -34,7 +38,9 @@ fn write_triple(
     ensures { OnOk result (string_bytes out.new ≡ string_bytes out.old
         ++ spaced (name.now ∷ decimal first ∷ decimal second ∷ decimal third ∷ [])) }
 {
-    write!(out, "{name} {first} {second} {third}")
+    write_pair(out, name, first, second)?;
+    out.push_str(" ")?;
+    write_decimal(out, third)
 }
 
 // Appends the line of a thread that is opened.
@@ -42,7 +48,10 @@ fn write_opened(out: &mut String, thread: ThreadId, space: u64) -> Result<(), Al
     ensures { OnOk result (string_bytes out.new
         ≡ string_bytes out.old ++ entry_text (Given (Opened thread space))) }
 {
-    write!(out, "opened {} {space}", IdText(thread))
+    out.push_str("opened ")?;
+    write_id(out, thread)?;
+    out.push_str(" ")?;
+    write_decimal(out, space)
 }
 
 // Appends the line of a call.
@@ -56,7 +65,9 @@ fn write_called(
     ensures { OnOk result (string_bytes out.new
         ≡ string_bytes out.old ++ entry_text (Given (Called number caller call.now))) }
 {
-    write!(out, "called {number} ")?;
+    out.push_str("called ")?;
+    write_decimal(out, number)?;
+    out.push_str(" ")?;
     write_call(alloc, out, caller, call)
 }
 
@@ -70,8 +81,30 @@ fn write_exreg(
     ensures { OnOk result (string_bytes out.new
         ≡ string_bytes out.old ++ entry_text (Given (Exreg thread dest control))) }
 {
-    let control = HexText(control.to_word());
-    write!(out, "exreg {} {} {control}", IdText(thread), IdText(dest))
+    out.push_str("exreg ")?;
+    write_id(out, thread)?;
+    out.push_str(" ")?;
+    write_id(out, dest)?;
+    out.push_str(" ")?;
+    write_hex(out, control.to_word())
+}
+
+// Appends the line of a clock reading.
+fn write_at(out: &mut String, moment: u64) -> Result<(), AllocError>
+    ensures { OnOk result (string_bytes out.new
+        ≡ string_bytes out.old ++ entry_text (Given (At moment))) }
+{
+    out.push_str("at ")?;
+    write_decimal(out, moment)
+}
+
+// Appends the line of a thread that ends.
+fn write_broke(out: &mut String, thread: ThreadId) -> Result<(), AllocError>
+    ensures { OnOk result (string_bytes out.new
+        ≡ string_bytes out.old ++ entry_text (Given (Broke thread))) }
+{
+    out.push_str("broke ")?;
+    write_id(out, thread)
 }
 
 // Appends the line of an input.
@@ -80,13 +113,13 @@ fn write_input(alloc: Global, out: &mut String, input: &Input) -> Result<(), All
         ≡ string_bytes out.old ++ entry_text (Given input.now)) }
 {
     match input {
-        Input::At(moment) => write!(out, "at {moment}"),
+        Input::At(moment) => write_at(out, *moment),
         Input::Opened(thread, space) => write_opened(out, *thread, *space),
         Input::Called(number, caller, call) => {
             write_called(alloc, out, *number, *caller, call.call())
         }
         Input::Exreg(thread, dest, control) => write_exreg(out, *thread, *dest, *control),
-        Input::Broke(thread) => write!(out, "broke {}", IdText(*thread)),
+        Input::Broke(thread) => write_broke(out, *thread),
         Input::Moved(number, count) => write_pair(out, "moved", *number, *count),
     }
 }
@@ -96,7 +129,10 @@ fn write_turned(out: &mut String, receiving: u64, thread: ThreadId) -> Result<()
     ensures { OnOk result (string_bytes out.new
         ≡ string_bytes out.old ++ entry_text (Written (Turned receiving thread))) }
 {
-    write!(out, "turned {receiving} {}", IdText(thread))
+    out.push_str("turned ")?;
+    write_decimal(out, receiving)?;
+    out.push_str(" ")?;
+    write_id(out, thread)
 }
 
 // Appends the line of a call that failed.
@@ -104,7 +140,10 @@ fn write_failed(out: &mut String, number: u64, code: IpcError) -> Result<(), All
     ensures { OnOk result (string_bytes out.new
         ≡ string_bytes out.old ++ entry_text (Written (Failed number code))) }
 {
-    write!(out, "failed {number} {}", HexText(code.to_word()))
+    out.push_str("failed ")?;
+    write_decimal(out, number)?;
+    out.push_str(" ")?;
+    write_hex(out, code.to_word())
 }
 
 // Appends the line of an output.
@@ -126,15 +165,24 @@ fn write_output(out: &mut String, output: Output) -> Result<(), AllocError>
     }
 }
 
+/// Appends the line of an entry, without its newline.
+///
+/// The error: memory was refused.
+pub fn write_entry(alloc: Global, out: &mut String, entry: &Entry) -> Result<(), AllocError>
+    ensures { OnOk result (string_bytes out.new ≡ string_bytes out.old ++ entry_text entry.now) }
+{
+    match entry {
+        Entry::Given(input) => write_input(alloc, out, input),
+        Entry::Written(output) => write_output(out, *output),
+    }
+}
+
 // The line of an entry.
 fn line_of(alloc: Global, entry: &Entry) -> Result<String, AllocError>
     ensures { IfOk result (λ line. string_bytes line ≡ entry_text entry.now) }
 {
     let mut line = String::with_capacity(alloc, USUAL_LINE_BYTES)?;
-    match entry {
-        Entry::Given(input) => write_input(alloc, &mut line, input)?,
-        Entry::Written(output) => write_output(&mut line, *output)?,
-    }
+    write_entry(alloc, &mut line, entry)?;
     Ok(line)
 }
 

@@ -30,11 +30,13 @@ fn count(text: &[u8], byte: u8) -> usize
     text.iter().filter(|other| **other == byte).count()
 }
 
-// What stands between the separators.
-fn parts(alloc: Global, text: &[u8], separator: u8) -> Result<Vec<&[u8]>, AllocError>
+// What stands between the separators: a list with room for so many parts, which else grows.
+fn parts(alloc: Global, text: &[u8], separator: u8, room: usize) -> Result<Vec<&[u8]>, AllocError>
     ensures { IfOk result (λ list. texts_of list.items ≡ parts_at separator text.now) }
 {
-    text.split(|byte| *byte == separator).collect(alloc)
+    let mut list = Vec::with_capacity(alloc, room)?;
+    list.extend(text.split(|byte| *byte == separator))?;
+    Ok(list)
 }
 
 // What stands between the separators; `None` where there are more parts than the limit.
@@ -48,10 +50,11 @@ pub(crate) fn split(
         (λ list. (texts_of list.items ≡ parts_at separator text.now)
         × (length list.items ≤ limit))) }
 {
-    if count(text, separator) >= limit {
+    let separators = count(text, separator);
+    if separators >= limit {
         return Ok(None);
     }
-    Ok(Some(parts(alloc, text, separator)?))
+    Ok(Some(parts(alloc, text, separator, separators + 1)?))
 }
 
 /// The fields of a line: what stands between its spaces; `None` where there are more than `most`.

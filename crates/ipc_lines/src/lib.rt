@@ -37,7 +37,7 @@ mod scalars;
 
 pub use call_reading::{read_call, read_timeouts};
 pub use calls::call_text;
-pub use entries::entry_line;
+pub use entries::{entry_line, write_entry};
 pub use fields::line_fields;
 pub use items::{read_buffers, read_strings, read_words};
 pub use laws::{
@@ -45,7 +45,7 @@ pub use laws::{
     lines_split_into_fields,
 };
 pub use numbers::{read_decimal, read_hex, read_id};
-pub use outcomes::outcome_line;
+pub use outcomes::{outcome_line, write_outcome};
 pub use readable::{are_buffers, are_strings, are_words, call_is_readable, entry_is_readable};
 pub use reading::{LineFault, read_entry};
-pub use scalars::{HexText, IdText};
+pub use scalars::{HexText, IdText, write_decimal, write_hex, write_id};

@@ -2,7 +2,7 @@ ghost use Rattle.std.specs.Prelude.{◌≡◌, ◌++◌, [], if◌then◌else◌
 ghost use Rattle.std.specs.String.{string_bytes};
 ghost use Rattle.ipc_lines.specs.Texts.{words_text, bytes_text, strings_text, substring_text, buffer_text, buffers_text};
 
-use crate::scalars::HexText;
+use crate::scalars::{write_decimal, write_hex};
 use ipc_items::{BufferList, StringList, Substring};
 use std::alloc::{AllocError, Global};
 
@@ -26,7 +26,7 @@ pub(crate) fn write_words(out: &mut String, words: &[u64]) -> Result<(), AllocEr
     }
     for (place, word) in words.iter().enumerate() {
         separate(out, place == 0, ",")?;
-        write!(out, "{}", HexText(*word))?;
+        write_hex(out, *word)?;
     }
     Ok(())
 }
@@ -65,8 +65,9 @@ pub(crate) fn write_strings(
 fn write_substring(out: &mut String, part: Substring) -> Result<(), AllocError>
     ensures { OnOk result (string_bytes out.new ≡ string_bytes out.old ++ substring_text part) }
 {
-    let length = part.length;
-    write!(out, "{length}@{}", HexText(part.pointer))
+    write_decimal(out, part.length)?;
+    out.push_str("@")?;
+    write_hex(out, part.pointer)
 }
 
 // Appends a buffer string: its substrings with `+` between.

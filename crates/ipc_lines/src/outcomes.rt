@@ -1,13 +1,14 @@
-ghost use Rattle.std.specs.Prelude.{◌≡◌, ◌++◌, OnOk, IfOk, map};
+ghost use Rattle.std.specs.Prelude.{◌≡◌, ◌++◌, ◌∷◌, [], OnOk, IfOk, map};
+ghost use Rattle.std.specs.Fmt.{decimal};
 ghost use Rattle.std.specs.String.{string_bytes};
 ghost use Rattle.std.specs.List.{flat_map};
 ghost use Rattle.ipc_items.specs.Pieces.{pieces_of_all};
 ghost use Rattle.ipc_items.specs.Placed.{placed};
-ghost use Rattle.ipc_lines.specs.Texts.{pieces_text, piece_text};
+ghost use Rattle.ipc_lines.specs.Texts.{hex_text, id_text, pieces_text, piece_text};
 ghost use Rattle.ipc_lines.specs.Lines.{outcome_text, placed_in, received_fields, spaced, told_fields};
 
 use crate::lists::{separate, write_bytes, write_words};
-use crate::scalars::{HexText, IdText, USUAL_LINE_BYTES};
+use crate::scalars::{USUAL_LINE_BYTES, write_decimal, write_hex, write_id};
 use ipc_history::Outcome;
 use ipc_items::{Piece, scatter_all};
 use std::alloc::{AllocError, Global};
@@ -17,7 +18,8 @@ fn write_piece(alloc: Global, out: &mut String, piece: Piece<'_>) -> Result<(), 
     ensures { OnOk result (string_bytes out.new
         ≡ string_bytes out.old ++ piece_text (placed piece.entry)) }
 {
-    write!(out, "{}:", HexText(piece.pointer))?;
+    write_hex(out, piece.pointer)?;
+    out.push_str(":")?;
     write_bytes(alloc, out, piece.bytes)
 }
 
@@ -36,17 +38,37 @@ fn write_pieces(alloc: Global, out: &mut String, pieces: &[Piece<'_>]) -> Result
     Ok(())
 }
 
+// Appends the number of the call and the tag of an outcome.
+fn write_tag(out: &mut String, outcome: &Outcome) -> Result<(), AllocError>
+    ensures { OnOk result (string_bytes out.new ≡ string_bytes out.old
+        ++ spaced (decimal outcome.now.call ∷ hex_text outcome.now.tag ∷ [])) }
+{
+    write_decimal(out, outcome.call)?;
+    out.push_str(" ")?;
+    write_hex(out, outcome.tag.to_word())
+}
+
+// Appends the senders and the ErrorCode of an outcome.
+fn write_senders(out: &mut String, outcome: &Outcome) -> Result<(), AllocError>
+    ensures { OnOk result (string_bytes out.new ≡ string_bytes out.old
+        ++ spaced (id_text outcome.now.sender ∷ id_text outcome.now.actual
+        ∷ hex_text outcome.now.error ∷ [])) }
+{
+    write_id(out, outcome.sender)?;
+    out.push_str(" ")?;
+    write_id(out, outcome.actual)?;
+    out.push_str(" ")?;
+    write_hex(out, outcome.error.to_word())
+}
+
 // Appends the fields of an outcome that are one word each.
 fn write_scalars(out: &mut String, outcome: &Outcome) -> Result<(), AllocError>
     ensures { OnOk result (string_bytes out.new
         ≡ string_bytes out.old ++ spaced (told_fields outcome.now)) }
 {
-    let number = outcome.call;
-    let tag = HexText(outcome.tag.to_word());
-    let sender = IdText(outcome.sender);
-    let actual = IdText(outcome.actual);
-    let error = HexText(outcome.error.to_word());
-    write!(out, "{number} {tag} {sender} {actual} {error}")
+    write_tag(out, outcome)?;
+    out.push_str(" ")?;
+    write_senders(out, outcome)
 }
 
 // Appends the pieces of the strings that an outcome received.
@@ -70,8 +92,10 @@ fn write_lists(alloc: Global, out: &mut String, outcome: &Outcome) -> Result<(),
     write_received(alloc, out, outcome)
 }
 
-// Appends the fields of an outcome.
-fn write_outcome(alloc: Global, out: &mut String, outcome: &Outcome) -> Result<(), AllocError>
+/// Appends the line of an outcome, as of [`outcome_line`], without its newline.
+///
+/// The error: memory was refused.
+pub fn write_outcome(alloc: Global, out: &mut String, outcome: &Outcome) -> Result<(), AllocError>
     ensures { OnOk result (string_bytes out.new
         ≡ string_bytes out.old ++ outcome_text outcome.now) }
 {

@@ -7,7 +7,8 @@ ghost use Rattle.ipc_shell.specs.Printing.{ended, trace_text, Answers};
 use crate::reading::command_is_readable;
 use ipc_core::{Advance, Answer, Command, ExregAnswer, Kernel};
 use ipc_history::{Entry, Outcome};
-use ipc_lines::{HexText, IdText, entry_line, outcome_line};
+use ipc_lines::{write_decimal, write_entry, write_hex, write_id, write_outcome};
+use ipc_words::ThreadId;
 use std::alloc::{AllocError, Global};
 
 /// How many bytes what is printed for a command has room for at first. A longer text grows.
@@ -35,18 +36,17 @@ fn write_entries(alloc: Global, out: &mut String, entries: &[Entry]) -> Result<(
         ≡ string_bytes out.old ++ trace_text entries.now) }
 {
     for entry in entries {
-        write_entry(alloc, out, entry)?;
+        write_line(alloc, out, entry)?;
     }
     Ok(())
 }
 
 // Appends the line of an entry.
-fn write_entry(alloc: Global, out: &mut String, entry: &Entry) -> Result<(), AllocError>
+fn write_line(alloc: Global, out: &mut String, entry: &Entry) -> Result<(), AllocError>
     ensures { OnOk result (string_bytes out.new
         ≡ string_bytes out.old ++ ended (entry_text entry.now)) }
 {
-    let line = entry_line(alloc, entry)?;
-    out.push_str(line.as_str())?;
+    write_entry(alloc, out, entry)?;
     out.push_str("\n")
 }
 
@@ -55,16 +55,34 @@ fn write_answer(alloc: Global, out: &mut String, answer: &Answer) -> Result<(), 
     ensures { OnOk result (string_bytes out.new ≡ string_bytes out.old ++ answer_text answer.now) }
 {
     match answer {
-        Answer::Opened(thread) => write!(out, "= {}", IdText(*thread)),
-        Answer::Entered(number) => write!(out, "= {number}"),
+        Answer::Opened(thread) => write_opened(out, *thread),
+        Answer::Entered(number) => write_entered(out, *number),
         Answer::Exchanged(answer) => write_exchanged(out, answer),
         Answer::Done => out.push_str("= ok"),
         Answer::Advanced(Advance::Moved) => out.push_str("= moved"),
         Answer::Advanced(Advance::Idle) => out.push_str("= idle"),
         Answer::Taken(None) => out.push_str("= none"),
-        Answer::Taken(Some(outcome)) => write_outcome(alloc, out, outcome),
+        Answer::Taken(Some(outcome)) => write_taken(alloc, out, outcome),
         Answer::Refused(refusal) => write!(out, "! K{}", refusal.number()),
     }
+}
+
+// Appends the answer of an open.
+fn write_opened(out: &mut String, thread: ThreadId) -> Result<(), AllocError>
+    ensures { OnOk result (string_bytes out.new
+        ≡ string_bytes out.old ++ answer_text (Answer.Opened thread)) }
+{
+    out.push_str("= ")?;
+    write_id(out, thread)
+}
+
+// Appends the answer of a call.
+fn write_entered(out: &mut String, number: u64) -> Result<(), AllocError>
+    ensures { OnOk result (string_bytes out.new
+        ≡ string_bytes out.old ++ answer_text (Answer.Entered number)) }
+{
+    out.push_str("= ")?;
+    write_decimal(out, number)
 }
 
 // Appends the answer of an ExchangeRegisters.
@@ -72,17 +90,19 @@ fn write_exchanged(out: &mut String, answer: &ExregAnswer) -> Result<(), AllocEr
     ensures { OnOk result (string_bytes out.new
         ≡ string_bytes out.old ++ answer_text (Answer.Exchanged answer.now)) }
 {
-    let control = HexText(answer.control.to_word());
-    let code = HexText(answer.code);
-    write!(out, "= {} {control} {code}", IdText(answer.result))
+    out.push_str("= ")?;
+    write_id(out, answer.result)?;
+    out.push_str(" ")?;
+    write_hex(out, answer.control.to_word())?;
+    out.push_str(" ")?;
+    write_hex(out, answer.code)
 }
 
 // Appends the answer of a taking that has an outcome.
-fn write_outcome(alloc: Global, out: &mut String, outcome: &Outcome) -> Result<(), AllocError>
+fn write_taken(alloc: Global, out: &mut String, outcome: &Outcome) -> Result<(), AllocError>
     ensures { OnOk result (string_bytes out.new
         ≡ string_bytes out.old ++ answer_text (Answer.Taken (Some outcome.now))) }
 {
-    let line = outcome_line(alloc, outcome)?;
     out.push_str("= ")?;
-    out.push_str(line.as_str())
+    write_outcome(alloc, out, outcome)
 }

@@ -4,8 +4,8 @@ use Rattle.std.proofs.lemmas.List.{length-map}
 use Rattle.std.proofs.lemmas.List.Splits.{length-slice_split}
 use Rattle.ipc_lines.proofs.fields.split.Goals as goal
 
-pub returns-then-count-limit : goal.returns-then-count-limit
-returns-then-count-limit c = omega (arith, length-slice_split (λ byte. byte == c.args.separator) c.args.text.now)
+pub returns-then-separators-limit : goal.returns-then-separators-limit
+returns-then-separators-limit c = omega (arith, length-slice_split (λ byte. byte == c.args.separator) c.args.text.now)
 
 pub returns : goal.returns
 returns c =

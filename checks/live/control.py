@@ -235,6 +235,10 @@ def check_path(l4d, l4sh):
         check("no --at of a live server", status == 2 and "takes no --at" in error, (status, error))
         status, _, error = tool(l4sh, "count", "--json", server.folder)
         check("no --json of a live server", status == 2 and "takes no --json" in error, (status, error))
+        for word in ("state", "count", "follow"):
+            behind = f"l4sh: bad word\n{server.folder}: is a folder, of a live server: wanted is nothing behind it; not trace\n"
+            tally.same(f"a word behind the folder of {word}", tool(l4sh, word, server.folder, "trace"), (2, "", behind))
+        check_denied(l4sh, server)
     nobody = f"l4sh: {server.folder}/control: Connection refused (os error 111): nobody serves there; l4d with --replace removes the path, and serves anew\n"
     for word in ("state", "count", "follow", "rotate"):
         tally.same(f"{word} of a server that was killed", tool(l4sh, word, server.folder), (1, "", nobody))
@@ -242,6 +246,23 @@ def check_path(l4d, l4sh):
         check("it can be left out", os.listdir(server.folder) == ["space1"], os.listdir(server.folder))
         absent = f"l4sh: {server.folder}/control: No such file or directory (os error 2): no l4d serves there, or none that makes this path\n"
         tally.same("then nobody can ask", tool(l4sh, "state", server.folder), (1, "", absent))
+
+
+def check_denied(l4sh, server):
+    """Another user is told who may ask, and who may be a thread."""
+    if not shutil.which("setpriv") or os.getuid() != 0:
+        print("another user: left out, since setpriv and root are wanted")
+        return
+    with tempfile.TemporaryDirectory() as room:
+        other = ["setpriv", "--reuid=54321", "--regid=54321", "--clear-groups", shutil.copy(l4sh, room)]
+        for folder in (room, server.folder):
+            os.chmod(folder, 0o755)
+        os.chmod(f"{server.folder}/space1", 0o600)
+        denied = f"l4sh: {server.folder}/control: Permission denied (os error 13): only the user whose l4d serves there may ask it, and root\n"
+        for word in ("state", "count", "follow", "rotate"):
+            tally.same(f"{word} of another user", tool(*other, word, server.folder), (1, "", denied))
+        shut = f"{server.folder}/space1: Permission denied (os error 13): only the user whose l4d serves there may connect, root, and whom its --mode lets in\n"
+        tally.same("talk of another user", tool(*other, "talk", server.folder), (4, "", f"l4sh: no server\n{shut}"))
 
 
 def client(server, number, space=1):

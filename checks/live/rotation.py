@@ -7,7 +7,8 @@ the moment, the calls and the versions of the entries before it; its kept entrie
 that is open is there.
 
 Then how many older files are kept, also from the start before; that somebody asks for a further file, or for a part, of a server with a trace and of one without, and
-of one whose file was moved away; that who reads slowly holds up nobody; and what is told of a folder that has gone, of a full disk, and of bad words.
+of one whose file was moved away; that a second server leaves the trace of one that runs alone; that who reads slowly holds up nobody; and what is told of a folder
+that has gone, of a full disk, and of bad words.
 
 Its last line is `N checked, M failed`; the status is 0 where M is 0.
 """
@@ -311,6 +312,62 @@ def check_kept(l4d, l4sh):
         tally.same("without --trace-keep the file is emptied", len([it for it in os.listdir(folder) if it.startswith("trace") and not it.endswith(".began")]), 4)
 
 
+def files_in(folder):
+    """The files of a trace in a folder, and what stands in them."""
+    files = {}
+    for name in sorted(os.listdir(folder)):
+        if name.startswith("trace"):
+            with open(f"{folder}/{name}", "rb") as file:
+                files[name] = file.read()
+    return files
+
+
+def check_refused(l4d, folder, name, *words):
+    """A second server may not write the trace of one that runs: it says so, serves on without it, and leaves all files as they are."""
+    before, path = files_in(folder), f"{folder}/{name}"
+    with Server(l4d, "--trace", path, "--connections", "2", "--probe", *words) as second:
+        told = f"l4d: trace TR1\n  {path} cannot be opened: another server writes it\n"
+        tally.same(f"a second server: {name} {words}", second.end(), (1, "probe 0x7\nclosed\n", told))
+    tally.same(f"what stands behind a second server: {name} {words}", files_in(folder), before)
+
+
+def check_second(l4d, l4sh):
+    """A second server leaves the trace of one that runs alone, by whatever name, and behind a further file. Once that one has ended, or was killed, it does not."""
+    keeps = (), ("--trace-keep", "2"), ("--trace-keep", "1", "--trace-size", "1K")
+    with Server(l4d, "--connections", "2", trace=True) as server, tempfile.TemporaryDirectory() as room:
+        pair = Client(server.path, 1), Client(server.path, 2)
+        pair_works(pair)
+        os.link(server.trace, f"{server.folder}/trace-linked")
+        os.symlink("trace", f"{server.folder}/trace-pointed")
+        server.entries()
+        for words in keeps:
+            for name in ("trace", "trace-linked", "trace-pointed"):
+                check_refused(l4d, server.folder, name, *words)
+        required = subprocess.run([l4d, "--dir", room, "--spaces", "1", "--trace", server.trace, "--trace-required", "--connections", "2", "--probe"],
+                                  capture_output=True, text=True, timeout=SECONDS)
+        told = f"l4d: trace TR1\n  {server.trace} cannot be opened: another server writes it\nl4d: ended, since --trace-required was given\n"
+        tally.same("a second server that must write it", (required.returncode, required.stdout, required.stderr), (1, "", told))
+        rotated(l4sh, server)
+        pair_works(pair)
+        time.sleep(0.3)
+        server.entries()
+        for words in keeps:
+            check_refused(l4d, server.folder, "trace", *words)
+        pair_works(pair)
+        ends_with_three(l4sh, server, pair, room)
+        tally.same("there is one older file", [os.path.basename(file) for file in chain(server.trace)], ["trace.1", "trace"])
+        for words in keeps[::-1]:
+            later = Server(l4d, "--connections", "2", "--probe", *words, folder=server.folder, trace=True)
+            tally.same(f"a server behind the other: {words}", later.end(), (0, "probe 0x7\nclosed\n", ""))
+        killed = Server(l4d, folder=server.folder, trace=True)
+        killed.kill()
+        later = Server(l4d, "--connections", "2", "--probe", "--replace", folder=server.folder, trace=True)
+        tally.same("a server behind one that was killed", later.end(), (0, "probe 0x7\nclosed\n", ""))
+    with Server(l4d, "--trace", "/dev/null") as first, Server(l4d, "--trace", "/dev/null", "--connections", "2", "--probe") as second:
+        tally.same("no device is locked", second.end(), (0, "probe 0x7\nclosed\n", ""))
+        del first
+
+
 def rotated(l4sh, server):
     """How `l4sh rotate` of the server's folder ends."""
     ran = subprocess.run([l4sh, "rotate", server.folder], stdin=subprocess.DEVNULL, capture_output=True, text=True, timeout=SECONDS)
@@ -434,10 +491,10 @@ def check_failures(l4d, l4sh):
         for client in pair:
             client.bye()
         status, _, error = server.end()
-        check("a file that is full", status == 1 and "l4d: trace TR1\n  its file cannot be written: File too large" in error, (status, error))
+        check("a file that is full", status == 1 and f"l4d: trace TR1\n  {server.trace} cannot be written: File too large" in error, (status, error))
     told = subprocess.run([l4d, "--dir", tempfile.gettempdir(), "--spaces", "1", "--trace", "/dev/full", "--trace-required", "--replace"],
                           capture_output=True, text=True, timeout=SECONDS)
-    check("a full disk", told.returncode == 1 and "its file cannot be written: No space left on device" in told.stderr, told.stderr)
+    check("a full disk", told.returncode == 1 and "/dev/full cannot be written: No space left on device" in told.stderr, told.stderr)
 
 
 def check_words(l4d):
@@ -460,6 +517,7 @@ def main(arguments):
     check_kept(l4d, l4sh)
     check_asked_for(l4d, l4sh)
     check_moved(l4d, l4sh)
+    check_second(l4d, l4sh)
     check_pipe(l4d, l4sh)
     check_failures(l4d, l4sh)
     check_words(l4d)

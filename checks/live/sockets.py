@@ -374,7 +374,7 @@ def traces(program):
     assert (counts["ended"], counts["broke"]) == (1, 2), counts
     for bad in ("/dev/full", folder, folder + "/none/trace"):
         status, told = traced(program, bad)
-        assert status == 1 and told.startswith(b"l4d: trace TR1\n") and told.count(b"TR1") == 1, (bad, status, told)
+        assert status == 1 and told.startswith(b"l4d: trace TR1\n  %s cannot be " % bad.encode()) and told.count(b"TR1") == 1, (bad, status, told)
     print("a trace that fails: l4d: trace TR1 once, the server serves on, and its status is 1")
 
 

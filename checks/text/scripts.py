@@ -213,7 +213,7 @@ def faults_of_codes(l4sh, _):
 
 
 def faults_of_folder(l4sh, path):
-    """A folder is no trace. `state`, `count` and `follow` ask the server of a folder, and here there is none."""
+    """A folder is no trace, and no standard input. `state`, `count` and `follow` ask the server of a folder, and here there is none."""
     for command in OF_A_FILE:
         there = ended([l4sh, command, path])
         told = f"l4sh: device failed\n{path}: is a folder; of a live server l4sh state {path} tells what its threads do\n"
@@ -221,6 +221,12 @@ def faults_of_folder(l4sh, path):
             told = f"l4sh: {path}/control: No such file or directory (os error 2): no l4d serves there, or none that makes this path\n"
         if there != (b"", 1, told.encode()):
             yield f"{command} ends so: {there}"
+    for words in (*((command,) for command in OF_INPUT), *((command, "-") for command in OF_A_FILE)):
+        folder = os.open(path, os.O_RDONLY)
+        ran = subprocess.run([l4sh, *words], stdin=folder, capture_output=True)
+        os.close(folder)
+        if (ran.returncode, ran.stdout, ran.stderr) != (1, b"", b"l4sh: device failed\nstandard input is a folder\n"):
+            yield f"{words} of a folder as standard input ends so: {ran}"
 
 
 def faults_of_following(l4sh, _):
@@ -261,7 +267,7 @@ def faults_of_progress(l4sh, _):
     """A slow trace is told of at a terminal, in one line that goes; a quick one is not, nor one that is followed."""
     for command in ("check", "state", "count", "chart"):
         status, told = told_at_terminal([l4sh, command, "-"], (0.5, 1.8, 0.1))
-        if status or not re.fullmatch(rb"(\rl4sh: 0 MiB read)+\r +\r", told):
+        if status or not re.fullmatch(rb"(\rl4sh: [1-9]\d* bytes read)+\r +\r", told):
             yield f"{command}: {status}, {told}"
     for command, pauses in (("check", (0.1, 0.1)), ("follow", (0.5, 1.8, 0.1))):
         status, told = told_at_terminal([l4sh, command, "-"], pauses)

@@ -27,7 +27,7 @@ L4SH = os.path.abspath(sys.argv[1])
 # What somebody may well fill in first, and what the judge then shows if it is asked for the answer.
 WRONG = {
     "01": (["2"], "wanted: called 2 2.1 1.1"), "02": (["2"], "wanted: called 3 1.1 nil 3.1"), "03": (["2", "2"], "wanted: called 3 1.1 2.1 any"),
-    "04": (["2s"], "wanted: called 1 1.1 nil any 0x7e8"), "05": (["4"], "wanted: called 1 1.1 nil any"), "06": (["5"], "3@0x100000,5@0x200000"),
+    "04": (["2s"], "wanted: called 1 1.1 nil any 0x7e8"), "05": (["4"], "wanted: began 2 1"), "06": (["5"], "wanted: began 4 3"),
     "07": (["1"], "wanted: called 5 2.1 1.2"), "08": (["send"], "wanted: exreg 3.1 1.1 0x2"), "09": (["2"], "0x1001 1.1"),
     "10": (["to=1 from=1"], "deadlock: 1.1 waits for 2.1 waits for 3.1 waits for 1.1"),
 }
@@ -107,6 +107,9 @@ def main():
     for word in ("from=2", "from=any"):
         status, said = judged_text("10", filled(text_of(f"{STEPS}/10_deadlock.l4"), [word]))
         check(f"the deadlock ends by {word}, too", status == 0, said)
+    for name, room in (("05_strings", "64"), ("06_overflow", "64,64")):
+        status, said = judged_text(name[:2], filled(text_of(f"{STEPS}/{name}.l4"), [room]))
+        check(f"more room than {name} needs", status == 0, said)
     status, said = judged("11")
     check("a step that is not there", status == 2 and "the steps are 01 to 10" in said, said)
     status, said = judged("01", f"{ROOT}/{STEPS}/none.l4")

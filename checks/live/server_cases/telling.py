@@ -31,7 +31,7 @@ def traces():
         assert stat.S_IMODE(os.stat(file).st_mode) == 0o600, oct(os.stat(file).st_mode)
         told = run("--dir", folder, "--spaces", "1", "--trace", f"{folder}/none/trace", "--trace-required")
         assert (told[0], told[1]) == (1, ""), told
-        has(told[2], "l4d: trace TR1\n", "cannot be opened", "No such file", "--trace-required")
+        has(told[2], f"l4d: trace TR1\n  {folder}/none/trace cannot be opened: No such file", "--trace-required")
         assert not os.path.exists(f"{folder}/space1")
         told = run("--dir", folder, "--spaces", "1", "--trace", "/dev/full", "--trace-required")
         assert (told[0], told[1]) == (1, ""), told

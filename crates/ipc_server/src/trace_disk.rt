@@ -1,16 +1,35 @@
 //! What the files of a trace ask of the system.
-use std::fs::{File, OpenOptions};
-use std::os::unix::fs::OpenOptionsExt;
+ghost use Rattle.std.specs.Prelude.{◌≡◌, false};
+ghost use Rattle.std.specs.Fs.{asks_truncate};
+
+use std::fs::{File, OpenOptions, TryLockError};
+use std::io::ErrorKind;
+use std::os::unix::fs::{MetadataExt, OpenOptionsExt};
 use std::{fs, io};
 
 /// The permissions of a file that is made: its owner alone.
 const OWNER_ONLY: u32 = 0o600;
 
+/// Why a file is left as it is whose lock somebody has.
+const LOCKED: &str = "another server writes it";
+
 /// What the worker of a trace asks of the system. `Files` also reads folders, by a type of which
 /// nobody knows that another thread may have it.
 pub trait TraceDisk {
-    /// Makes a file anew, and opens it to be written.
+    /// Makes a file anew, and opens it to be written. A regular one is locked until it is dropped,
+    /// before it is emptied.
+    ///
+    /// # Errors
+    ///
+    /// It cannot be opened or emptied. `another server writes it`: it is left as it is.
     fn make_file(&self, path: &str) -> io::Result<File>;
+
+    /// Locks the regular file that is there until it is dropped; None where there is none.
+    ///
+    /// # Errors
+    ///
+    /// It cannot be opened. `another server writes it`.
+    fn lock_file(&self, path: &str) -> io::Result<Option<File>>;
 
     /// Whether a file is there.
     fn has_file(&self, path: &str) -> io::Result<bool>;
@@ -27,13 +46,21 @@ pub trait TraceDisk {
 
 impl TraceDisk for HostRuntime {
     fn make_file(&self, path: &str) -> io::Result<File> {
-        let mut options = OpenOptions::new();
-        options
-            .write(true)
-            .create(true)
-            .truncate(true)
-            .mode(OWNER_ONLY);
-        options.open(self, path)
+        let file = written(true).open(self, path)?;
+        if file.metadata()?.is_file() {
+            lock(self, &file, path)?;
+            file.set_len(0)?;
+        }
+        Ok(file)
+    }
+
+    fn lock_file(&self, path: &str) -> io::Result<Option<File>> {
+        if !self.is_regular(path) {
+            return Ok(None);
+        }
+        let file = written(false).open(self, path)?;
+        lock(self, &file, path)?;
+        Ok(Some(file))
     }
 
     fn has_file(&self, path: &str) -> io::Result<bool> {
@@ -54,4 +81,27 @@ impl TraceDisk for HostRuntime {
     fn drop_file(&self, path: &str) -> io::Result<()> {
         fs::remove_file(self, path)
     }
+}
+
+/// How a file is opened that is to be written; it may be made. What stands in it stays.
+fn written(is_made: bool) -> OpenOptions
+    ensures { asks_truncate result ≡ false }
+{
+    let mut options = OpenOptions::new();
+    options.mode(OWNER_ONLY);
+    options.write(true).create(is_made).truncate(false);
+    options
+}
+
+/// Locks a file that was opened by this path. On a file system that has no locks it does nothing.
+fn lock(rt: &HostRuntime, file: &File, path: &str) -> io::Result<()> {
+    if let Err(TryLockError::WouldBlock) = file.try_lock() {
+        return Err(io::Error::new(ErrorKind::ResourceBusy, LOCKED));
+    }
+    let (opened, named) = (file.metadata()?, fs::metadata(rt, path)?);
+    if (opened.dev(), opened.ino()) != (named.dev(), named.ino()) {
+        // the server that had it has renamed it, and may need it still
+        return Err(io::Error::new(ErrorKind::ResourceBusy, LOCKED));
+    }
+    Ok(())
 }

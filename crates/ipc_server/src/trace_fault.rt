@@ -18,14 +18,14 @@ pub enum Failed {
 impl fmt::Display for Failed {
     fn fmt<W: fmt::Write>(&self, f: &mut fmt::Formatter<W>) -> fmt::Result {
         match self {
-            Failed::Opening => write!(f, "its file cannot be opened"),
-            Failed::Writing => write!(f, "its file cannot be written"),
-            Failed::Renaming => write!(f, "its file cannot be renamed"),
+            Failed::Opening => write!(f, "cannot be opened"),
+            Failed::Writing => write!(f, "cannot be written"),
+            Failed::Renaming => write!(f, "cannot be renamed"),
         }
     }
 }
 
-/// Why a trace stopped, told as `l4d: trace TR1`.
+/// Why a trace stopped.
 #[derive(Clone, Copy)]
 pub struct TraceFault {
     fault: PutFault,
@@ -58,12 +58,20 @@ impl TraceFault {
     }
 }
 
-impl fmt::Display for TraceFault {
+/// The same as it is told, with the path of the file: `l4d: trace TR1`, and in the next line why.
+#[derive(Clone, Copy)]
+pub(crate) struct Told<'a> {
+    pub(crate) fault: TraceFault,
+    pub(crate) path: &'a str,
+}
+
+impl fmt::Display for Told<'_> {
     fn fmt<W: fmt::Write>(&self, f: &mut fmt::Formatter<W>) -> fmt::Result {
-        let number = self.number();
+        let Told { fault, path } = self;
+        let number = fault.number();
         write!(f, "l4d: trace TR{number}")?;
-        match &self.reason {
-            Some((failed, error)) => write!(f, "\n  {failed}: {error}"),
+        match &fault.reason {
+            Some((failed, error)) => write!(f, "\n  {path} {failed}: {error}"),
             None => Ok(()),
         }
     }
@@ -79,7 +87,7 @@ impl fmt::Display for Stopped {
         let number = fault.number();
         write!(f, "the trace has stopped (TR{number})")?;
         match &fault.reason {
-            Some((failed, error)) => write!(f, ": {failed}: {error}"),
+            Some((failed, error)) => write!(f, ": its file {failed}: {error}"),
             None => Ok(()),
         }
     }

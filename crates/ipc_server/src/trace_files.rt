@@ -15,6 +15,7 @@ use ipc_lock::Naming;
 use l4sh_options::ServerOptions;
 use l4sh_times::Start;
 use std::alloc::{AllocError, Global};
+use std::fs::File;
 use std::io;
 use std::io::BufWriter;
 use std::marker::Brand;
@@ -59,18 +60,22 @@ impl<'a> TraceFiles<'a> {
 
     /// The trace of the first file, which is made anew and has the line of the version. One that
     /// stands there becomes an older one where it was asked how many are kept; else it is emptied.
+    /// One that another server writes is left as it is.
     ///
     /// # Errors
     ///
-    /// TR1: it cannot be opened, renamed or written. TR5: no memory for its lines.
+    /// TR1: it cannot be opened, renamed or written, or another server writes it. TR5: no memory
+    /// for its lines.
     pub fn begin<R: TraceDisk, L: Ledger>(
         self,
         rt: &R,
         alloc: Global,
         failures: Failures<L>,
     ) -> Result<Trace<FilePort<'a, L>>, TraceFault> {
-        if self.keep.is_some() && self.is_there(rt)? {
+        if self.keep.is_some() {
+            let locked = self.locked(rt)?;
             self.move_on(rt, alloc)?;
+            drop(locked);
         }
         let mut trace = self.opened(rt, alloc, failures, 0)?;
         trace.begin()?;
@@ -95,7 +100,7 @@ impl<'a> TraceFiles<'a> {
         R: Wait + Clock + Eprint + TraceDisk,
         P: PortWrite + Drop,
     {
-        let mut next = first.follow(server, host)?;
+        let mut next = self.follow_file(server, host, first)?;
         for _ in server.rt.forever() {
             match next.take() {
                 Some(part) => next = self.follow_next(server, host, part)?,
@@ -136,12 +141,34 @@ impl<'a> TraceFiles<'a> {
         requires writes_name { writes.name ≡ L.name }
         requires writes_parts { (writes.parts ≡ L.parts) × (0 < writes.parts) }
     {
-        self.move_on(server.rt, server.alloc)?;
         let failures = Failures::<L>::new(writes);
         let mut trace = self.opened(server.rt, server.alloc, failures, next.count)?;
         trace.begin_part(server.alloc, &next.part)?;
         drop(next);
-        trace.follow(server, host)
+        self.follow_file(server, host, trace)
+    }
+
+    /// Writes FILE to its end, and answers what begins the one behind it, for which it has made
+    /// room; None at the end. FILE is locked until it has its new name.
+    fn follow_file<C, T, R, P>(
+        self,
+        server: &Server<'_, C, T, SocketPort, R>,
+        host: &Host,
+        trace: Trace<P>,
+    ) -> Result<Option<Next>, TraceFault>
+    where
+        C: Naming,
+        T: Ledger,
+        R: Wait + Clock + Eprint + TraceDisk,
+        P: PortWrite + Drop,
+    {
+        let mut trace = trace;
+        let next = trace.follow(server, host)?;
+        if next.is_some() {
+            self.move_on(server.rt, server.alloc)?;
+        }
+        drop(trace);
+        Ok(next)
     }
 
     /// The trace of FILE, which is made anew, behind so many entries.
@@ -163,10 +190,10 @@ impl<'a> TraceFiles<'a> {
         Ok(Trace::new(alloc, WritePort::new(file, failures), count))
     }
 
-    /// Whether FILE is there.
-    fn is_there<R: TraceDisk>(self, rt: &R) -> Result<bool, TraceFault> {
-        match rt.has_file(self.path) {
-            Ok(is_there) => Ok(is_there),
+    /// FILE, where a regular one is there, which no server writes while this is kept.
+    fn locked<R: TraceDisk>(self, rt: &R) -> Result<Option<File>, TraceFault> {
+        match rt.lock_file(self.path) {
+            Ok(file) => Ok(file),
             Err(error) => Err(TraceFault::device(Failed::Opening, error)),
         }
     }

@@ -9,7 +9,7 @@ use crate::server::Server;
 use crate::service::serve_and_close;
 use crate::services::{AllServed, Services};
 use crate::trace_disk::TraceDisk;
-use crate::trace_fault::TraceFault;
+use crate::trace_fault::{Told, TraceFault};
 use crate::trace_files::TraceFiles;
 use crate::tracing::Trace;
 use ipc_base::{Failures, PortWrite};
@@ -121,7 +121,7 @@ where
         + Eprint
         + Sync,
 {
-    stopped(server.rt, host, fault);
+    stopped(server.rt, host, options, fault);
     if options.trace_required {
         server.shared.close(server.rt);
         return Ending::Failed(Exit::TraceRequired);
@@ -151,7 +151,7 @@ where
 {
     let (is_whole, served) = thread::join(
         server.rt,
-        move || write_trace(server, host, files, options.trace_required, trace),
+        move || write_trace(server, host, options, files, trace),
         move || serve_and_close(server, host, options, services),
     );
     ending_beside(served, is_whole, options.trace_required)
@@ -175,8 +175,8 @@ fn ending_beside<C: Naming>(
 fn write_trace<C, T, R, P>(
     server: &Server<'_, C, T, SocketPort, R>,
     host: &Host,
+    options: &ServerOptions<'_>,
     files: TraceFiles<'_>,
-    is_required: bool,
     trace: Trace<P>,
 ) -> bool
 where
@@ -188,10 +188,11 @@ where
     match files.follow(server, host, trace) {
         Ok(()) => true,
         Err(fault) => {
-            stopped(server.rt, host, fault.with_reason(host.meter.reason()));
+            let fault = fault.with_reason(host.meter.reason());
+            stopped(server.rt, host, options, fault);
             server.keep_nothing();
             host.followers.close(server.rt);
-            if is_required {
+            if options.trace_required {
                 host.stop(server.rt);
             }
             false
@@ -200,8 +201,9 @@ where
 }
 
 /// Says on standard error why the trace stopped, and keeps it for those who ask.
-fn stopped<R: Wait + Eprint>(rt: &R, host: &Host, fault: TraceFault) {
+fn stopped<R: Wait + Eprint>(rt: &R, host: &Host, options: &ServerOptions<'_>, fault: TraceFault) {
     host.trace_stop.note(rt, fault);
+    let path = options.trace.unwrap_or("");
     // where standard error fails too, the exit status still says it
-    let _ = rt.eprintln(&fault);
+    let _ = rt.eprintln(&Told { fault, path });
 }

@@ -116,19 +116,6 @@ impl<P: PortWrite> Trace<P> {
     ///
     /// TR1, TR5: the trace has stopped there.
     pub fn follow<C: Naming, T: Ledger, R: Wait + Clock + Eprint>(
-        self,
-        server: &Server<'_, C, T, SocketPort, R>,
-        host: &Host,
-    ) -> Result<Option<Next>, TraceFault>
-    where
-        P: Drop,
-    {
-        let mut trace = self;
-        trace.put_all(server, host)
-    }
-
-    // The same, by a trace that somebody else has.
-    fn put_all<C: Naming, T: Ledger, R: Wait + Clock + Eprint>(
         &mut self,
         server: &Server<'_, C, T, SocketPort, R>,
         host: &Host,

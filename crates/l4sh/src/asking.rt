@@ -151,6 +151,8 @@ pub(crate) fn connect_reason(
             ": nobody serves there; l4d with --replace removes the path, and serves anew"
         }
         ErrorKind::NotFound => ": no l4d serves there, or none that makes this path",
+        ErrorKind::PermissionDenied =>
+            ": only the user whose l4d serves there may ask it, and root",
         _ => "",
     };
     format!(in alloc; "{path}: {error}{help}")

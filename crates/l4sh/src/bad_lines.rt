@@ -16,17 +16,21 @@ pub(crate) fn with_reason(alloc: Global, exit: Exit, grammar: Grammar, tail: &Ta
     let Some(line) = tail.line(number) else {
         return Ending::from(exit);
     };
-    let reason = bad_line_reason(alloc, grammar, line).unwrap_or(None);
+    let reason = bad_line_reason(alloc, grammar, number, line).unwrap_or(None);
     Ending::Alone { exit, reason }
 }
 
 fn bad_line_reason(
     alloc: Global,
     grammar: Grammar,
+    number: u64,
     line: &[u8],
 ) -> Result<Option<String>, AllocError> {
     if line == b"l4part 1".as_slice() && matches!(grammar, Grammar::Trace) {
         return Ok(Some(part_reason(alloc)?));
+    }
+    if number > 1 && line.starts_with(b"l4trace ") && matches!(grammar, Grammar::Trace) {
+        return Ok(Some(second_reason(alloc)?));
     }
     if line.len() > MAX_LINE_BYTES {
         let text = format!(in alloc; "a line of more than {MAX_LINE_BYTES} bytes")?;
@@ -56,6 +60,14 @@ fn part_reason(alloc: Global) -> Result<String, AllocError> {
     String::from_str(
         alloc,
         "a part begins in the middle of a history, which it does not tell: name the files before it, oldest first, and then this one; where they are gone, check, state and follow still take it",
+    )
+}
+
+/// Why the line of a version is bad behind the first line.
+fn second_reason(alloc: Global) -> Result<String, AllocError> {
+    String::from_str(
+        alloc,
+        "a second trace begins here, as of a server that was started again: put it into a file of its own",
     )
 }
 

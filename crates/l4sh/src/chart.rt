@@ -261,9 +261,19 @@ fn picture_of(
     }
 }
 
-/// Whether two forms are asked for: text, and a page.
-pub fn has_two_forms(options: &ChartOptions<'_>) -> bool {
-    options.is_text && (options.is_html || options.page > 0)
+/// Which options exclude each other, in words; None where none do.
+pub fn options_reason(
+    alloc: Global,
+    options: &ChartOptions<'_>,
+) -> Option<Result<String, AllocError>> {
+    if options.is_text && (options.is_html || options.page > 0) {
+        let reason = "--text goes with neither --html nor --page";
+        Some(String::from_str(alloc, reason))
+    } else if options.from > options.to {
+        Some(chart_reason(alloc, options, ChartFault::Reversed))
+    } else {
+        None
+    }
 }
 
 /// Why there is nothing to draw, in words.
@@ -285,9 +295,5 @@ pub fn chart_reason(
                 "no entry from {from} to {to} has a row: a clock line has none"
             ),
         },
-        ChartFault::TwoForms => String::from_str(
-            alloc,
-            "--text goes with neither --html nor --page",
-        ),
     }
 }

@@ -16,9 +16,10 @@ pub enum Exit {
     Illegal,
     /// The list of the threads of a chart has a word that is no thread id: status 2.
     BadThreads,
-    /// A chart would have no row, or two forms were asked for: status 2.
+    /// A chart would have no row: status 2.
     NoChart(ChartFault),
-    /// A word that was to be explained, or made a tag or a period of, is none: status 2.
+    /// A word that was to be explained, or made a tag or a period of, is none, or options exclude
+    /// each other: status 2.
     BadWord,
     /// The first line of a trace tells a version that is not known: status 2.
     UnknownVersion,
@@ -39,8 +40,6 @@ pub enum ChartFault {
     PastTheEnd(u64),
     /// No entry within the range has a row, or none is of the threads that were asked for.
     NoRow,
-    /// Text was asked for, and a page.
-    TwoForms,
 }
 
 impl From<RunExit> for Exit {

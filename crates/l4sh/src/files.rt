@@ -248,7 +248,7 @@ fn torn_before(alloc: Global, file: &str) -> Ending {
 fn fault_text(alloc: Global, file: &str, fault: PartFault) -> Result<String, AllocError> {
     match fault {
         PartFault::BadLine(1) => format!(in alloc;
-            "l4sh: bad line 1 of {file}: it is no part; a part begins with l4part 1, and the trace comes first"
+            "l4sh: bad line 1 of {file}: it is no part, which begins with l4part 1; a second trace, which begins with l4trace, is named first, or alone where its server was started again"
         ),
         PartFault::BadLine(number) => {
             format!(in alloc; "l4sh: bad line {number} of {file}: no part has it there")

@@ -7,6 +7,7 @@ use crate::ending::Ending;
 use crate::exit::Exit;
 use crate::kept::KeptPort;
 use crate::live::talk_to_server;
+use crate::opening::of_input;
 use crate::prompted::PromptedPort;
 use crate::talk::talk_with;
 use crate::terminal::{is_told_at_terminal, prompt};
@@ -18,23 +19,25 @@ use l4sh_explain::Grammar;
 use l4sh_options::{ScriptLimits, TalkOptions};
 use std::alloc::Global;
 use std::net::Net;
+use std::rt::Files;
 use std::sync::ledger::Ledger;
 
 /// Runs the script of standard input. Of a p that is dropped, and of refusals, it is told on
 /// standard error, where that is a terminal.
-pub(crate) fn run_input<L: Ledger, R: Input + Eprint, W: PortWrite>(
+pub(crate) fn run_input<L: Ledger, R: Files + Input + Eprint, W: PortWrite>(
     rt: &R,
     alloc: Global,
     limits: &ScriptLimits,
     reads: Failures<L>,
     writer: &mut W,
 ) -> Ending {
-    if is_told_at_terminal() {
+    let ending = if is_told_at_terminal() {
         let mut watched = WatchedPort::new(rt, alloc, writer);
         run_input_into(rt, alloc, limits, reads, &mut watched)
     } else {
         run_input_into(rt, alloc, limits, reads, writer)
-    }
+    };
+    of_input(rt, alloc, ending)
 }
 
 /// The same, and prints to this writer.
@@ -51,7 +54,7 @@ fn run_input_into<L: Ledger, R: Input, W: PortWrite>(
 }
 
 /// Runs the wire script of standard input.
-pub(crate) fn wire_input<L: Ledger, R: Input, W: PortWrite>(
+pub(crate) fn wire_input<L: Ledger, R: Files + Input, W: PortWrite>(
     rt: &R,
     alloc: Global,
     reads: Failures<L>,
@@ -59,18 +62,20 @@ pub(crate) fn wire_input<L: Ledger, R: Input, W: PortWrite>(
 ) -> Ending {
     let mut reader = KeptPort::new(alloc, ReadPort::new(rt.reader(), reads));
     let exit = wire_script(alloc, greatest_limits(), &mut reader, writer);
-    with_reason(alloc, Exit::from(exit), Grammar::Wire, reader.tail())
+    let ending = with_reason(alloc, Exit::from(exit), Grammar::Wire, reader.tail());
+    of_input(rt, alloc, ending)
 }
 
 /// Talks over standard input, with a kernel of its own.
-pub(crate) fn talk_over_input<L: Ledger, R: Input, W: PortWrite>(
+pub(crate) fn talk_over_input<L: Ledger, R: Files + Input, W: PortWrite>(
     rt: &R,
     alloc: Global,
     reads: Failures<L>,
     writer: &mut W,
 ) -> Ending {
     let mut reader = ReadPort::new(rt.reader(), reads);
-    Ending::from(talk_with(alloc, greatest_limits(), prompt(), &mut reader, writer))
+    let exit = talk_with(alloc, greatest_limits(), prompt(), &mut reader, writer);
+    of_input(rt, alloc, Ending::from(exit))
 }
 
 /// Talks from standard input with a live server, with a prompt at a terminal.

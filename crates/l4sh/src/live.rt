@@ -91,6 +91,9 @@ fn space_reason(alloc: Global, path: &str, error: &io::Error) -> Result<String, 
         ErrorKind::ConnectionRefused => format!(in alloc;
             "{path}: {error}: nobody listens there: its l4d has ended, and --replace serves anew; or the path has had its --connections, and --keep-open helps"
         ),
+        ErrorKind::PermissionDenied => format!(in alloc;
+            "{path}: {error}: only the user whose l4d serves there may connect, root, and whom its --mode lets in"
+        ),
         _ => connect_reason(alloc, path, error),
     }
 }

@@ -13,6 +13,9 @@ use std::io;
 use std::rt::{Clock, Files};
 use std::sync::ledger::Ledger;
 
+/// The path of standard input.
+const STANDARD_INPUT: &str = "/dev/stdin";
+
 /// What is done with the trace of a reader.
 pub(crate) trait Task {
     /// Does it, and says how it ended.
@@ -48,7 +51,7 @@ pub(crate) fn look<T: Task, L: Ledger, R: Files + Input + Eprint + Clock, W: Por
 }
 
 /// Does this with the trace of standard input.
-fn look_at_input<T: Task, L: Ledger, R: Input + Eprint + Clock, W: PortWrite>(
+fn look_at_input<T: Task, L: Ledger, R: Files + Input + Eprint + Clock, W: PortWrite>(
     rt: &R,
     alloc: Global,
     task: &mut T,
@@ -64,7 +67,8 @@ fn look_at_input<T: Task, L: Ledger, R: Input + Eprint + Clock, W: PortWrite>(
     let mut reader = ToldPort::new(rt, kept, progress);
     let exit = task.perform(alloc, &mut reader, writer);
     let kept = reader.into_port();
-    with_reason(alloc, exit, Grammar::Trace, kept.tail())
+    let ending = with_reason(alloc, exit, Grammar::Trace, kept.tail());
+    of_input(rt, alloc, ending)
 }
 
 /// Does this with the trace of a file that was opened.
@@ -116,6 +120,21 @@ fn device_failed<R: Files>(rt: &R, alloc: Global, file: &str) -> Ending {
         }
     } else {
         Ending::from(exit)
+    }
+}
+
+/// The same ending of what has read standard input. Where a device failed, and standard input is a
+/// folder, which can be opened and not read, that is the reason.
+pub(crate) fn of_input<R: Files>(rt: &R, alloc: Global, ending: Ending) -> Ending {
+    match ending {
+        Ending::Alone {
+            exit: Exit::DeviceFailed,
+            reason: None,
+        } if is_folder(rt, STANDARD_INPUT) => Ending::Alone {
+            exit: Exit::DeviceFailed,
+            reason: String::from_str(alloc, "standard input is a folder").ok(),
+        },
+        _ => ending,
     }
 }
 

@@ -2,7 +2,7 @@
 use crate::asking::{Question, ask_server};
 use crate::began::times_of;
 use crate::begun::check_begun;
-use crate::chart::{chart_read, chart_reason, chart_trace, has_two_forms};
+use crate::chart::{chart_read, chart_reason, chart_trace, options_reason};
 use crate::ending::{Ending, exit_alone};
 use crate::exit::{ChartFault, Exit};
 use crate::follow::{follow_entries, follow_trace};
@@ -18,6 +18,7 @@ use ipc_base::{Failures, PortRead, PortWrite};
 use ipc_shell::check_trace;
 use ipc_trace::TraceRead;
 use ipc_words::limits::MAX_CHART_ENTRY;
+use l4sh_explain::Shown;
 use l4sh_options::{ChartOptions, CountOptions, FollowOptions, StateOptions};
 use l4sh_times::Times;
 use std::alloc::Global;
@@ -113,14 +114,17 @@ pub(crate) fn state_of<L: Ledger, R: Files + Input + Eprint + Clock + Net, W: Po
     reads: Failures<L>,
     writer: &mut W,
 ) -> Ending {
-    let Some(dir) = folder_in(rt, files) else {
-        let look = Look::StateAt(options.at as usize);
-        return look_at_files(rt, alloc, files, look, options.is_timed, reads, writer);
-    };
-    if u64::from(options.at) < MAX_CHART_ENTRY {
-        return only_of_traces(alloc, dir, "--at");
+    match subject_of(rt, files) {
+        Subject::Trace => {
+            let look = Look::StateAt(options.at as usize);
+            look_at_files(rt, alloc, files, look, options.is_timed, reads, writer)
+        }
+        Subject::Server(dir) if u64::from(options.at) < MAX_CHART_ENTRY => {
+            only_of_traces(alloc, dir, "--at")
+        }
+        Subject::Server(dir) => live_state(rt, alloc, dir, options.is_timed, writer),
+        Subject::ServerBeside(dir, word) => named_alone(alloc, dir, word),
     }
-    live_state(rt, alloc, dir, options.is_timed, writer)
 }
 
 /// Counts what a history tells, or tells the counters of a live server where a folder is named.
@@ -132,34 +136,57 @@ pub(crate) fn count_of<L: Ledger, R: Files + Input + Eprint + Clock + Net, W: Po
     reads: Failures<L>,
     writer: &mut W,
 ) -> Ending {
-    let Some(dir) = folder_in(rt, files) else {
-        let look = Look::Counts {
-            is_json: options.is_json,
-        };
-        return look_at_files(rt, alloc, files, look, options.is_timed, reads, writer);
-    };
-    if options.is_json {
-        return only_of_traces(alloc, dir, "--json");
+    match subject_of(rt, files) {
+        Subject::Trace => {
+            let look = Look::Counts {
+                is_json: options.is_json,
+            };
+            look_at_files(rt, alloc, files, look, options.is_timed, reads, writer)
+        }
+        Subject::Server(dir) if options.is_json => only_of_traces(alloc, dir, "--json"),
+        Subject::Server(dir) if options.is_timed => only_of_traces(alloc, dir, "--time"),
+        Subject::Server(dir) => ask_server(rt, alloc, dir, Question::Counters, writer),
+        Subject::ServerBeside(dir, word) => named_alone(alloc, dir, word),
     }
-    if options.is_timed {
-        return only_of_traces(alloc, dir, "--time");
-    }
-    ask_server(rt, alloc, dir, Question::Counters, writer)
 }
 
-/// The folder that stands in place of files.
-fn folder_in<'a, R: Files>(rt: &R, files: &[&'a str]) -> Option<&'a str> {
+/// What files are named for.
+#[derive(Clone, Copy)]
+enum Subject<'a> {
+    /// A trace, of one file or of several.
+    Trace,
+    /// The live server of a folder.
+    Server(&'a str),
+    /// The same, with a word behind the folder.
+    ServerBeside(&'a str, &'a str),
+}
+
+/// What these files are named for.
+fn subject_of<'a, R: Files>(rt: &R, files: &[&'a str]) -> Subject<'a> {
     match files {
-        [file] if is_folder(rt, *file) => Some(*file),
-        _ => None,
+        [dir] if is_folder(rt, *dir) => Subject::Server(*dir),
+        [dir, word, ..] if is_folder(rt, *dir) => Subject::ServerBeside(*dir, *word),
+        _ => Subject::Trace,
     }
 }
 
 /// An option that a live server does not take. Without memory there is no reason.
-fn only_of_traces(alloc: Global, file: &str, option: &str) -> Ending {
+fn only_of_traces(alloc: Global, dir: &str, option: &str) -> Ending {
     Ending::Alone {
         exit: Exit::BadWord,
-        reason: format!(in alloc; "{file}: is a folder: a live server takes no {option}").ok(),
+        reason: format!(in alloc; "{dir}: is a folder: a live server takes no {option}").ok(),
+    }
+}
+
+/// A word behind the folder of a live server. Without memory there is no reason.
+fn named_alone(alloc: Global, dir: &str, word: &str) -> Ending {
+    let reason = format!(in alloc;
+        "{dir}: is a folder, of a live server: wanted is nothing behind it{}",
+        Shown(word.as_bytes())
+    );
+    Ending::Alone {
+        exit: Exit::BadWord,
+        reason: reason.ok(),
     }
 }
 
@@ -216,8 +243,11 @@ pub(crate) fn chart_of<L: Ledger, R: Files + Input + Eprint + Clock, W: PortWrit
     reads: Failures<L>,
     writer: &mut W,
 ) -> Ending {
-    if has_two_forms(options) {
-        return no_chart(alloc, options, ChartFault::TwoForms);
+    if let Some(reason) = options_reason(alloc, options) {
+        return Ending::Alone {
+            exit: Exit::BadWord,
+            reason: reason.ok(),
+        };
     }
     let times = match times_of(rt, alloc, files, options.is_timed) {
         Ok(times) => times,
@@ -238,9 +268,10 @@ pub(crate) fn follow_of<L: Ledger, R: Files + Input + Eprint + Clock + Net, W: P
     reads: Failures<L>,
     writer: &mut W,
 ) -> Ending {
-    let ending = match folder_in(rt, files) {
-        Some(dir) => follow_server(rt, alloc, dir, options, reads, writer),
-        None => follow_files(rt, alloc, files, options, reads, writer),
+    let ending = match subject_of(rt, files) {
+        Subject::Trace => follow_files(rt, alloc, files, options, reads, writer),
+        Subject::Server(dir) => follow_server(rt, alloc, dir, options, reads, writer),
+        Subject::ServerBeside(dir, word) => return named_alone(alloc, dir, word),
     };
     told_follow(alloc, options, &ending).unwrap_or(ending)
 }

@@ -136,13 +136,16 @@ impl Progress {
 
 impl fmt::Display for Amount {
     fn fmt<W: fmt::Write>(&self, f: &mut fmt::Formatter<W>) -> fmt::Result {
-        let read = self.read / MIB;
+        let (read, mib) = (self.read, self.read / MIB);
         match self.size {
+            Some(size) if size < MIB => write!(f, "\rl4sh: {read} of {size} bytes read"),
             Some(size) => {
                 let size = size.div_ceil(MIB);
-                write!(f, "\rl4sh: {read} of {size} MiB read")
+                write!(f, "\rl4sh: {mib} of {size} MiB read")
             }
-            None => write!(f, "\rl4sh: {read} MiB read"),
+            None if mib == 0 => write!(f, "\rl4sh: {read} bytes read"),
+            // over the longer line in bytes
+            None => write!(f, "\rl4sh: {mib} MiB read        "),
         }
     }
 }

@@ -96,7 +96,7 @@ pub(crate) const FAMILIES: [Family; 6] = [
             "the first line of the trace tells a version that is not known",
         ],
         helps: &[
-            "room on the device, permissions",
+            "room on the device, permissions, a file of its own",
             "see the first fault",
             "nothing, while l4d still writes; else l4sh migrate",
             "l4sh check says which line, and why",

@@ -34,7 +34,7 @@ pub use reasons::{BadField, Reason, Wanted, reason_of, reason_text};
 pub use rules::CallRule;
 pub use tags::{TagRequest, answer_tag, tell_tag};
 pub use text::{Printable, Shown, wanted_hex};
-pub use times::{TimeFault, period_of, read_period, read_time};
+pub use times::{TimeFault, TimeUnit, period_of, read_period, read_time};
 pub use told::Told;
 pub use whole::LineFault;
 pub use words::explain;

@@ -7,11 +7,15 @@ use ipc_lines::{read_decimal, read_hex};
 use ipc_words::Period;
 
 /// A unit of time.
-#[derive(Clone, Copy)]
-pub(crate) enum TimeUnit {
+#[derive(Clone, Copy, PartialEq, Eq, Debug)]
+pub enum TimeUnit {
+    /// `us`
     Micro,
+    /// `ms`
     Milli,
+    /// `s`
     Second,
+    /// `min`
     Minute,
 }
 
@@ -37,8 +41,8 @@ impl TimeUnit {
 pub enum TimeFault {
     /// A number without a unit, which is not 0.
     NoUnit,
-    /// A number with a point.
-    Fraction,
+    /// A number with a point before this unit.
+    Fraction(TimeUnit),
     /// More microseconds than 64 bits hold.
     TooLong,
     /// HEX of more than 16 bits.
@@ -56,7 +60,10 @@ impl TimeFault {
     pub fn wanted(self) -> &'static str {
         match self {
             TimeFault::NoUnit => "a unit behind the number, as 20us, 2ms, 1s or 1min",
-            TimeFault::Fraction => "a whole number before the unit, as 1500ms",
+            TimeFault::Fraction(TimeUnit::Micro) => "a whole number before the unit, as 2us",
+            TimeFault::Fraction(TimeUnit::Milli) => "a whole number before the unit, as 1500us",
+            TimeFault::Fraction(TimeUnit::Second) => "a whole number before the unit, as 1500ms",
+            TimeFault::Fraction(TimeUnit::Minute) => "a whole number before the unit, as 90s",
             TimeFault::TooLong => "a time of at most 18446744073709551615us",
             TimeFault::Wide => "the HEX of a period, which has 16 bits, as 0x832",
             TimeFault::TimePoint => {
@@ -92,18 +99,18 @@ pub fn read_time(word: &[u8]) -> Result<u64, TimeFault> {
 fn scaled(count: &[u8], unit: TimeUnit) -> Result<u64, TimeFault> {
     match read_decimal(count) {
         Some(number) => number.checked_mul(unit.micros()).ok_or(TimeFault::TooLong),
-        None => Err(count_fault(count)),
+        None => Err(count_fault(count, unit)),
     }
 }
 
 // Why the number before a unit is none.
-fn count_fault(count: &[u8]) -> TimeFault {
+fn count_fault(count: &[u8], unit: TimeUnit) -> TimeFault {
     if count.is_empty() {
         TimeFault::NoTime
     } else if count.iter().all(u8::is_ascii_digit) {
         TimeFault::TooLong
     } else if count.contains(&b'.') {
-        TimeFault::Fraction
+        TimeFault::Fraction(unit)
     } else {
         TimeFault::NoTime
     }

@@ -175,9 +175,11 @@ class Said:
         for kind, is_so in (("blocked", BLOCKED.search(words)), ("unread", UNCOVERED in words), ("unasked", UNASKED.search(words))):
             if is_so:
                 return kind, f"{symbol}: {words}"
-        faults = self.faults.get("/".join(symbol.split("::")[1:]), [])
+        folder = "/".join(symbol.split("::")[1:])
+        faults = self.faults.get(folder) or [it for other, found in self.faults.items() if other.endswith(f"/{folder.split('/')[-1]}") for it in found]
         by_names = [(name, text) for file, name, text in faults if file == "Proof" or NAMES.search(text)]
-        goals = self.goals[symbol] + [it[1:] for it in faults if it[1:] not in by_names]
+        unmet = [(name, words) for name in re.findall(r"`([^`]+)`", words.partition("did not prove")[2])]
+        goals = (self.goals[symbol] or unmet) + [it[1:] for it in faults if it[1:] not in by_names]
         for kind, found in (("refused", [it for it in goals if not SAFETY.match(it[0])]), ("names", by_names), ("safety", goals)):
             if found:
                 return kind, f"{symbol}: `{found[0][0]}`: {found[0][1]}"

@@ -95,7 +95,7 @@ def slow_trace():
             status, out, err = server.end(60)
             reader.join()
             os.close(pipe)
-            told = re.fullmatch(r"l4d: trace (\d+) entries behind\n", err)
+            told = re.fullmatch(rf"l4d: {re.escape(fifo)} is a pipe: l4d waits until somebody reads it\nl4d: trace (\d+) entries behind\n", err)
             assert (status, out) == (0, "closed\n") and told and int(told[1]) > FAR_BEHIND, (status, out, err)
             trace = b"".join(read)
             assert trace.startswith(b"l4trace 2\n") and trace.endswith(b"\n")

@@ -4,7 +4,7 @@ ghost use Rattle.std.specs.Fs.{asks_truncate};
 
 use std::fs::{File, OpenOptions, TryLockError};
 use std::io::ErrorKind;
-use std::os::unix::fs::{MetadataExt, OpenOptionsExt};
+use std::os::unix::fs::{FileTypeExt, MetadataExt, OpenOptionsExt};
 use std::{fs, io};
 
 /// The permissions of a file that is made: its owner alone.
@@ -36,6 +36,9 @@ pub trait TraceDisk {
 
     /// Whether a regular file is there.
     fn is_regular(&self, path: &str) -> bool;
+
+    /// Whether a pipe is there, which opens once somebody reads it.
+    fn is_pipe(&self, path: &str) -> bool;
 
     /// Gives a file another name.
     fn rename_file(&self, from: &str, to: &str) -> io::Result<()>;
@@ -70,6 +73,13 @@ impl TraceDisk for HostRuntime {
     fn is_regular(&self, path: &str) -> bool {
         match fs::metadata(self, path) {
             Ok(found) => found.is_file(),
+            Err(_) => false,
+        }
+    }
+
+    fn is_pipe(&self, path: &str) -> bool {
+        match fs::metadata(self, path) {
+            Ok(found) => found.file_type().is_fifo(),
             Err(_) => false,
         }
     }

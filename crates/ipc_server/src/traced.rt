@@ -94,6 +94,7 @@ where
     requires writes_name { writes.name ≡ L.name }
     requires writes_parts { (writes.parts ≡ L.parts) × (0 < writes.parts) }
 {
+    tell_pipe(server.rt, options);
     let files = TraceFiles::new(options, &host.meter, start_of(server));
     match files.begin(server.rt, server.alloc, Failures::<L>::new(writes)) {
         Ok(trace) => serve_beside(server, host, options, files, trace, services),
@@ -101,6 +102,15 @@ where
             let fault = fault.with_reason(host.meter.reason());
             serve_without(server, host, options, fault, services)
         }
+    }
+}
+
+/// Says on standard error where the trace goes to a pipe, which opens once somebody reads it.
+fn tell_pipe<R: Eprint + TraceDisk>(rt: &R, options: &ServerOptions<'_>) {
+    let path = options.trace.unwrap_or("");
+    if rt.is_pipe(path) {
+        // where standard error fails nobody is told
+        let _ = eprintln!(rt; "l4d: {path} is a pipe: l4d waits until somebody reads it");
     }
 }
 

@@ -132,15 +132,15 @@ pub posts_none : (C P : Type 0) (place : ℕ) (said : Told) (own own_now : Known
     → PostsOrDrops C P place said own own_now
 posts_none C P place said own own_now gone = inr gone
 
-pub moves_some : {C P : Type 0} (before after : LoggedParts) (now : ℕ) (answer : Answer) (pens left : Errands C P) (moved goes_on : Bool)
+pub moves_some : {C P : Type 0} (before after : LoggedParts) (now : ℕ) (answer : Answer) (pens left : Errands C P) (goes_on : Bool)
     → Turned C P before after (event.Acted now (Advance ∷ []) (answer ∷ []) (gifts pens))
     → ActsAndTells {C = C} before.inside.upkeep after.inside.upkeep before.inside.kernel after.inside.kernel now None Advance answer before.inside.owners
     before.inside.boxes after.inside.boxes no_errands pens
-    → Carries pens left → moved ≡ is_moved answer → goes_on ≡ (moved && is_some (next_moving after.inside.kernel.history)) → MovesSome C P now goes_on
-moves_some before after now answer pens left moved goes_on turned acts carries same is = record {
+    → Carries pens left → goes_on ≡ (is_moved answer && is_some (next_moving after.inside.kernel.history)) → MovesSome C P now goes_on
+moves_some before after now answer pens left goes_on turned acts carries is = record {
   answer = answer;
   acts = record { before = before; after = after; pens = pens; left = left; turned = turned; acts = acts; carries = carries };
-  goes_on_is = is ∙ ap (λ (b : Bool). b && is_some (next_moving after.inside.kernel.history)) same;
+  goes_on_is = is;
 }
 
 -- one block more was copied

@@ -1,5 +1,8 @@
 //! Steps, each with what it tells.
-ghost use Rattle.std.specs.Prelude.{◌≡◌, ◌∷◌, [], IfNone, None, false, slice_get, true};
+ghost use Rattle.std.specs.Prelude.{◌≡◌, ◌∷◌, ◌&&◌, [], IfNone, None, false, is_some, slice_get, true};
+ghost use Rattle.ipc_core.specs.declared.command.Command.TheVariants as step;
+ghost use Rattle.ipc_history.specs.Legal.{next_moving};
+ghost use Rattle.ipc_lock.specs.Above.{is_moved};
 ghost use Rattle.ipc_lock.specs.Acting.{AnswersStep, Asked, GivesSeat, HandsBack};
 ghost use Rattle.ipc_lock.specs.Boxes.{changed_at};
 ghost use Rattle.ipc_lock.specs.Gifts.{gifts, no_errands, number_in};
@@ -17,9 +20,16 @@ use crate::inside::After;
 use crate::seated::{Answered, CallSeat};
 use ipc_base::Past;
 use ipc_connection::{PenPort, Request, Told};
-use ipc_core::Command;
+use ipc_core::{Advance, Answer, Command};
 use ipc_log::{Log, Naming, Own};
 use std::sync::ledger::Ledger;
+
+/// Whether a step copied a block.
+fn has_moved<C: Ledger, T: Ledger>(answered: &Answered<C, T>) -> bool
+    ensures { result ≡ is_moved answered.now.answer }
+{
+    matches!(answered.answer(), Answer::Advanced(Advance::Moved))
+}
 
 impl<C: Naming, T: Ledger, P: PenPort + Drop> Logged<C, T, P> {
     /// Makes one step, a command of the kernel by a seat where a thread calls, and takes the pens
@@ -61,6 +71,29 @@ impl<C: Naming, T: Ledger, P: PenPort + Drop> Logged<C, T, P> {
             },
         );
         (answered, after)
+    }
+
+    /// Makes one step that copies a block, where a call is in transfer. Also answers whether it
+    /// copied one and more is left. No pen is out before.
+    pub(crate) fn copy_and_tell(
+        &mut self,
+        log: &Log<Event, C>,
+        now: u64,
+        errands: &mut Errands<C, P>,
+    ) -> (Answered<C, T>, bool, After)
+        requires none { errands.old ≡ no_errands }
+        ensures turned { Turned C P self.old self.new (event.Acted now (step.Advance ∷ [])
+            (result.0.answer ∷ []) (gifts errands.new)) }
+        ensures acts { ActsAndTells self.old.inside.upkeep self.new.inside.upkeep
+            self.old.inside.kernel self.new.inside.kernel now None step.Advance
+            result.0.answer self.old.inside.owners self.old.inside.boxes self.new.inside.boxes
+            no_errands errands.new }
+        ensures goes_on { result.1 ≡ (is_moved result.0.answer
+            && is_some (next_moving self.new.inside.kernel.history)) }
+    {
+        let (answered, after) = self.act_and_tell(log, now, None, Command::Advance, errands);
+        let goes_on = self.goes_on(has_moved(&answered));
+        (answered, goes_on, after)
     }
 
     /// Makes the step of a reader's request from a space, tells in its box what the kernel

@@ -2,7 +2,7 @@
 ghost use Rattle.std.specs.Prelude.{◌≡◌, IfSome, IfNone, false};
 ghost use Rattle.std.specs.List.{list_any};
 ghost use Rattle.std.specs.Sync.Mutex.{mutex_guard_value};
-ghost use Rattle.ipc_lock.specs.Above.{EndsAll, MovesAll, MovesSome, OverSome, RestsOrEnds, WorksSome, is_moved};
+ghost use Rattle.ipc_lock.specs.Above.{EndsAll, MovesAll, MovesSome, OverSome, RestsOrEnds, WorksSome};
 ghost use Rattle.ipc_lock.specs.Alarms.{Rests};
 ghost use Rattle.ipc_lock.specs.Boxes.{has_connection};
 ghost use Rattle.ipc_lock.specs.Turns.{Runs};
@@ -13,9 +13,7 @@ use crate::inside::After;
 use crate::logged::Logged;
 use crate::rest::Rest;
 use crate::roll::Roll;
-use crate::seated::Answered;
 use ipc_connection::PenPort;
-use ipc_core::{Advance, Answer, Command};
 use ipc_log::Naming;
 use ipc_words::limits::{BLOCK_BYTES, MAX_STRING_BYTES};
 use std::hint::spin_loop;
@@ -49,13 +47,6 @@ fn look_on<R: Clock>(rt: &R, time: Duration) {
     }
 }
 
-/// Whether a step copied a block.
-fn has_moved<C: Ledger, T: Ledger>(answered: &Answered<C, T>) -> bool
-    ensures { result ≡ is_moved answered.now.answer }
-{
-    matches!(answered.answer(), Answer::Advanced(Advance::Moved))
-}
-
 impl<C: Naming, T: Ledger, P: PenPort + Drop> SharedKernel<C, T, P> {
     /// Wakes the mover where a transfer has begun.
     pub(super) fn wake_mover(&self, after: &After) {
@@ -78,20 +69,12 @@ impl<C: Naming, T: Ledger, P: PenPort + Drop> SharedKernel<C, T, P> {
     }
 
     /// Copies a block of what is in transfer; false where nothing is left.
-    #[tactic(auto, using(crate::proofs::Above::moves_some))]
     fn move_block<R: Wait>(&self, rt: &R, now: u64) -> bool
         ensures moves { MovesSome C P now result }
     {
         let mut errands = Errands::none();
         let mut inside = self.inside(rt);
-        let (answered, after) = inside.act_and_tell(
-            &self.log,
-            now,
-            None,
-            Command::Advance,
-            &mut errands,
-        );
-        let goes_on = inside.goes_on(has_moved(&answered));
+        let (answered, goes_on, after) = inside.copy_and_tell(&self.log, now, &mut errands);
         drop(inside);
         self.settle(rt, after, &mut errands);
         drop(answered);

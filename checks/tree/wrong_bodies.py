@@ -1,5 +1,5 @@
 #!/usr/bin/env python3
-"""checks/tree/wrong_bodies.py [--promised | --proved] [CRATE[/EDIT] ..]: tries the wrong bodies of crates/CRATE/wrong, many in one check.
+"""checks/tree/wrong_bodies.py [--promised | --proved] [--strict] [CRATE[/EDIT] ..]: tries the wrong bodies of crates/CRATE/wrong, many in one check.
 
 An edit stands in wrong/ in the format of must-fail/: a line `file: src/lib.rt`, then pairs of lines `old: TEXT` and `new: TEXT`. `rt ci` tries
 those of must-fail/ one by one, each with all proofs of its crate. Those of wrong/ are tried here, before a landing that touches the crate. Those of
@@ -18,7 +18,7 @@ has to be written another way. A crate whose name begins with tests_ is checked 
 It needs the kit's command rt, whose modules it uses, and changes no source. The crates below are built first where they are not; with --promised the
 libraries that the gate has just made are taken. It prints a line for each edit, with the path of its function and the goal that refused it, and a
 line for how many were refused by names or for safety alone. Its last line is `N refused, M passed`; the status is 1 where one passed or could not be
-tried, or one of wrong/promised was refused so alone, with --proved where one was refused.
+tried, with --proved where one was refused, with --strict also where one of wrong/promised was refused so alone.
 """
 
 import glob
@@ -224,9 +224,9 @@ def ran_with(rt, crate, group, kept):
     return rt.checked(crate, texts_of(crate, group), flags, kept)
 
 
-def try_crate(rt, crate, edits):
-    """Tries wrong bodies of one crate; answers how many a goal refused, names or safety alone, and neither, and a line of each. So alone is not enough of
-    what is promised."""
+def try_crate(rt, crate, edits, is_strict):
+    """Tries wrong bodies of one crate; answers how many a goal refused, names or safety alone, and neither, and a line of each. Where it is strict, so
+    alone is not enough of what is promised."""
     kinds, lines = [], []
     waiting = list(groups(edits))
     with tempfile.TemporaryDirectory() as room:
@@ -246,7 +246,7 @@ def try_crate(rt, crate, edits):
                 if kind in ("blocked", "unread") and len(group) > 1:
                     waiting.append([edit])
                     continue
-                kinds.append("passed" if kind in ALONE and edit.is_promised else kind)
+                kinds.append("passed" if kind in ALONE and edit.is_promised and is_strict else kind)
                 lines.append(f"{kind.upper()} {crate.name}/{edit.name}: {said[:400]}")
     refused, alone = kinds.count("refused"), sum(it in ALONE for it in kinds)
     return refused, alone, len(edits) - refused - alone, lines
@@ -267,8 +267,8 @@ def main():
     os.chdir(ROOT)
     rt = kit("wrong_bodies")
     rt.rtlib.guarded()
-    asked = [it.partition("/")[::2] for it in sys.argv[1:] if it not in ("--promised", "--proved")]
-    is_promised, is_proved = "--promised" in sys.argv[1:], "--proved" in sys.argv[1:]
+    asked = [it.partition("/")[::2] for it in sys.argv[1:] if it not in ("--promised", "--proved", "--strict")]
+    is_promised, is_proved, is_strict = (it in sys.argv[1:] for it in ("--promised", "--proved", "--strict"))
     crates = rt.rtlib.crates_below(os.getcwd())
     unknown = [it for it, _ in asked if it not in [crate.name for crate in crates]]
     if unknown:
@@ -283,7 +283,7 @@ def main():
             continue
         if not (is_promised and all(map(is_of_gate, crate.below()))):
             build_below(crate)
-        tasks[crate.name, "edits"] = ([], crate.count(rb"\n"), rt.need(crate), lambda given, jobs, crate=crate, edits=edits: told(try_crate(rt, crate, edits)))
+        tasks[crate.name, "edits"] = ([], crate.count(rb"\n"), rt.need(crate), lambda given, jobs, crate=crate, edits=edits: told(try_crate(rt, crate, edits, is_strict)))
     counts = rt.in_lanes(tasks).values()
     refused, alone, passed = (sum(it[kind] for it in counts) for kind in range(3))
     if alone:

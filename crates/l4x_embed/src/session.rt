@@ -6,6 +6,7 @@ use ipc_base::{MemoryPort, PortWrite};
 use ipc_connection::{NoBlocks, Told};
 use ipc_frame::{Frame, WireVersion, encode, ipcr_of};
 use ipc_history::Outcome;
+use ipc_lines::outcome_line;
 use ipc_session::{
     Ending, MemoryAnswers, MemoryKernelPort, Open, WriteEnding, read_loop, write_loop,
 };
@@ -55,7 +56,7 @@ fn show_writing<P: PortWrite>(alloc: Global, lines: &mut TraceWriter<P>) -> Resu
     Ok(())
 }
 
-/// An outcome as the frame that tells it.
+/// An outcome as the frame that tells it, and as a line.
 fn show_outcome<P: PortWrite>(
     alloc: Global,
     lines: &mut TraceWriter<P>,
@@ -68,7 +69,9 @@ fn show_outcome<P: PortWrite>(
     if bytes.is_empty() {
         return Err(Trouble::Unexpected);
     }
-    lines.put_text("an outcome is a frame")?;
+    let line = outcome_line(alloc, outcome)?;
+    lines.put_text("an outcome is a frame, and a line:")?;
+    lines.put_text(&line)?;
     Ok(())
 }
 

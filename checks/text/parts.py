@@ -253,6 +253,20 @@ def faults_of_moved(files):
         yield f"alone behind a string: {told}"
 
 
+# entries whose threads stand in one space, and behind them a message whose p is permitted
+SPACES = (b"l4trace 2\nopened 1.1 1\nopened 2.1 1\nopened 3.1 1\n"
+          b"called 1 3.1 nil any 0x0 0x0 nil - - -\ncalled 2 1.1 nil 2.1 0x0 0x0 nil - - -\n")
+SHOWN = b"called 3 2.1 3.1 nil 0x0 0x1000 1.1 - - -\nbegan 3 1\nturned 2 3.1\nended 3 1\n"
+
+
+def faults_of_shown(files):
+    """What state tells of such a message behind a part alone, where that is something else than it tells of the whole trace."""
+    begun = files.part(SPACES)
+    wanted, told = files.read(["state"], SPACES + SHOWN), begun and files.read(["state"], begun + SHOWN)
+    if not begun or wanted != told or b"dropped" in wanted[0]:
+        yield f"state of a message whose p is permitted: {told}, wanted is {wanted}"
+
+
 # what each script leaves when it ends, and whether its outcomes count as untaken there
 IDLE = (
     ("a client that was answered twice, and then calls nobody", False, """
@@ -313,7 +327,7 @@ def main():
             for fault in faults[:5]:
                 print(f"{name}: {fault}")
             passed, failed = (passed, failed + 1) if faults else (passed + 1, failed)
-        for fault in [*faults_of_moved(files), *faults_of_idle(files)]:
+        for fault in [*faults_of_moved(files), *faults_of_shown(files), *faults_of_idle(files)]:
             print(fault)
             failed += 1
     if found < FOUND * alone:

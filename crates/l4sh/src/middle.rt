@@ -9,7 +9,7 @@ use crate::history::{print_text, verdict_text};
 use crate::last_state::{past_the_end, state_text};
 use crate::looking::Look;
 use crate::printing::Printing;
-use crate::several::{join, named, part, put_printed, torn_behind, torn_line};
+use crate::several::{named, put_printed, torn_behind, torn_line};
 use ipc_base::{MemoryPort, PortWrite};
 use ipc_chain::{Behind, Chain, chain_behind};
 use ipc_trace::Part;
@@ -85,7 +85,7 @@ fn print_state<W: PortWrite>(
     let mut history = history;
     let entries = entries_of(&history.parts);
     cut(&mut history.parts, count);
-    let Ok(drops) = drops_in(alloc, &mut history.parts) else {
+    let Ok(drops) = drops_in(alloc, &history.parts) else {
         return Ending::from(Exit::NoMemory);
     };
     match behind(alloc, files, history) {
@@ -143,12 +143,18 @@ fn cut_entries(parts: &mut [Part], count: usize) -> usize {
     whole
 }
 
-/// The deliveries to anybody else that these entries tell.
-fn drops_in(alloc: Global, parts: &mut Vec<Part>) -> Result<Drops, AllocError> {
-    let mut entries = Vec::new(alloc);
-    let places = join(alloc, &mut entries, parts)?;
-    let drops = drops_of(alloc, &entries)?;
-    part(&mut entries, parts, &places)?;
+/// The calls of these parts whose p was dropped. Who is live, and in which space, stands in the
+/// entries that the first part keeps.
+fn drops_in(alloc: Global, parts: &[Part]) -> Result<Drops, AllocError> {
+    let mut drops = match parts.first() {
+        Some(first) => drops_of(alloc, &first.kept)?,
+        None => Drops::new(alloc),
+    };
+    for part in parts {
+        for entry in &part.entries {
+            drops.note(entry)?;
+        }
+    }
     Ok(drops)
 }
 

@@ -214,6 +214,6 @@ where
 fn stopped<R: Wait + Eprint>(rt: &R, host: &Host, options: &ServerOptions<'_>, fault: TraceFault) {
     host.trace_stop.note(rt, fault);
     let path = options.trace.unwrap_or("");
-    // where standard error fails too, the exit status still says it
-    let _ = rt.eprintln(&Told { fault, path });
+    // where standard error takes nothing, the exit status still says it
+    host.lines.tell(rt, &Told { fault, path });
 }

@@ -117,7 +117,7 @@ where
 
 /// Opens the first file of the trace. A pipe opens once somebody reads it; a signal that comes
 /// before that stops the service.
-fn begin_trace<'a, C: Naming, T: Ledger, L: Ledger + Send, R>(
+fn begin_trace<'a, C: Naming + Send, T: Ledger + Send, L: Ledger + Send, R>(
     server: &Server<'_, C, T, SocketPort, R>,
     host: &'a Host,
     options: &ServerOptions<'a>,

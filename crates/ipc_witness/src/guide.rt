@@ -248,11 +248,17 @@ impl<'a> Guide<'a> {
         if self.budget.is_last(call.caller, call.number) {
             return true;
         }
-        if let Phase::Taking(sending, _, _) = call.phase {
+        let other = match call.phase {
             // bytes of the message that it takes may still be to move
-            if self.wanted.names_from(self.passed, sending) {
-                return true;
-            }
+            Phase::Taking(sending, _, _) => Some(sending),
+            // its transfer is over as the kept entries tell of its receiver
+            Phase::Passing(receiving) => Some(receiving),
+            _ => None,
+        };
+        if let Some(other) = other
+            && self.wanted.names_from(self.passed, other)
+        {
+            return true;
         }
         for waiter in self.waiters.as_slice() {
             if waiter.number == call.number && self.passed <= waiter.sending {

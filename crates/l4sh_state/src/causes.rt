@@ -28,7 +28,7 @@ pub fn short_cause_of_entry(error: IpcError) -> &'static str {
         Some(ErrorKind::Cancelled) => "cancelled",
         Some(ErrorKind::NonExistingPartner) => "no partner",
         Some(ErrorKind::MessageOverflow) => "overflow",
-        Some(ErrorKind::Aborted) => "partner ended",
+        Some(ErrorKind::Aborted) => "aborted, its partner ended",
         None => "failed",
     }
 }

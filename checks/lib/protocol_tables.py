@@ -189,7 +189,7 @@ ERRORS = {
     2: "non-existing partner",
     3: "cancelled by another thread",
     4: "message overflow",
-    7: "aborted by another thread",
+    7: "aborted by another thread, or its partner ended",
 }
 
 # The entries of a trace by their words, with the fields behind them.

@@ -16,6 +16,7 @@ Its last line is `N checked, M failed`; the status is 0 where M is 0.
 import os
 import pty
 import random
+import select
 import signal
 import socket
 import subprocess
@@ -30,6 +31,8 @@ from runs import ended, ended_in_pieces
 from serving import Server, is_legal
 
 L4D, L4SH = sys.argv[1:3]
+# So long a terminal is waited for.
+SECONDS = 20
 # Frames: HELLO 2, WELCOME 2.1, BYE, and the IPCR of a send that was successful.
 HELLO, WELCOME, BYE = "00000003 01 0002", "00000009 81 0000000200000001", "00000001 04"
 SENT = "00000022 82 0000000000000000 0000000000000000 0000000000000000 0000000000000000 00"
@@ -292,6 +295,27 @@ def lost_servers():
         idle.ends("a server that was killed before", 4, "l4sh: the server is gone\n", typed="receive\n")
 
 
+def lost_at_a_terminal():
+    """A terminal is told at once that the server has ended, while no line is typed."""
+    with Server(L4D) as server:
+        ours, theirs = pty.openpty()
+        with subprocess.Popen([L4SH, "talk", server.folder], stdin=theirs, stdout=theirs, stderr=theirs, close_fds=True) as talk:
+            os.close(theirs)
+            seen = b""
+            while not seen.endswith(b"l4sh> "):
+                seen += os.read(ours, 4096)
+            server.kill()
+            seen = b""
+            try:
+                while select.select([ours], [], [], SECONDS)[0] and (piece := os.read(ours, 4096)):
+                    seen += piece
+            except OSError:
+                pass  # it ended, and let go of the terminal
+            talk.kill()
+        os.close(ours)
+        same("a terminal whose server ends", (talk.returncode, seen.decode()), (4, "\r\nl4sh: the server is gone\r\n"))
+
+
 def beside_frames(frames, talk):
     """What a talk comes to whose server sends these frames and then no more, and all bytes that the server got."""
     with tempfile.TemporaryDirectory(prefix="talks-") as folder, socket.socket(socket.AF_UNIX) as listener:
@@ -343,6 +367,7 @@ def main():
         judged(server)
     runs()
     lost_servers()
+    lost_at_a_terminal()
     stored_frames()
     ran = subprocess.run([L4SH, "talk", "/nowhere"], input="", capture_output=True, text=True)
     same("no folder", (ran.returncode, ran.stdout, ran.stderr),

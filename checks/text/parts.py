@@ -277,6 +277,15 @@ IDLE = (
     ("a client that was answered between two others", True, """
         open 1 1; open 2 1; open 3 1; open 4 1; wait 1; ask 2 1; ask 3 1; ask 4 1; answer 1 2; answer 1 3; answer 1 4; call 3.1 9.1 nil 0x0 0x0 nil - - -"""),
     ("a call that was too late for a thread that has ended since", True, "open 1 1; open 2 1; call 1.1 2.1 nil 0x4000000 0x0 nil - - -; broke 2.1"),
+    ("a call that was passed on, and whose two servers wait again", False, """
+        open 1 1; open 2 1; open 3 1; wait 2; wait 3; ask 1 2; call 2.1 3.1 nil 0x0 0x1000 1.1 - - -; wait 3; wait 2"""),
+    ("a call that was passed on twice", False, """
+        open 1 1; open 2 1; open 3 1; open 4 1; wait 2; wait 3; wait 4; ask 1 2; call 2.1 3.1 nil 0x0 0x1000 1.1 - - -;
+        call 3.1 4.1 nil 0x0 0x1000 1.1 - - -; wait 4; wait 3; wait 2"""),
+    ("a call that failed, since its partner had ended, which had made calls", True, """
+        open 1 1; open 2 1; call 2.1 9.1 nil 0x0 0x0 nil - - -; broke 2.1; call 1.1 nil 2.1 0x0 0x0 nil - - -"""),
+    ("a message whose p was dropped, since its originator had ended, which had made calls", True, """
+        open 1 1; open 2 1; open 3 1; call 3.1 9.1 nil 0x0 0x0 nil - - -; broke 3.1; wait 1; call 2.1 1.1 nil 0x0 0x1000 3.1 - - -"""),
 )
 
 

@@ -130,7 +130,7 @@ def check_headers(room):
             file.write(f"#include <l4.h>\n{use}\n")
         got = subprocess.run(["cc", *STRICT, "-fsyntax-only", source], stderr=subprocess.DEVNULL)
         assert got.returncode != 0, f"{name} is there"
-    unlisted = {name for name in declared if not name.startswith("L4_H")} - set(there) - {"l4_h", "L4_NAME_BYTES"}
+    unlisted = {name for name in declared if not name.startswith("L4_H")} - set(there) - {"l4_h", "L4_NAME_BYTES", "L4_FUNCTION_FAILED"}
     # guards, what the headers themselves are made of, and the values of l4_told_t, which are those of protocol/
     unlisted = {name for name in unlisted if not name.endswith(("_H", "_")) and not name.startswith("l4_told_")}
     assert not unlisted, f"PROFILE does not name {sorted(unlisted)}"

@@ -17,6 +17,9 @@ from page_text import blocks_of
 from protocol_tables import MAX_NAME_BYTES, MAX_STRING_BYTES
 from traces import entries_in
 
+# The label of the answer that stands for one that cannot be sent.
+FUNCTION_FAILED = (1 << 48) - 1
+
 
 class L4xNames:
     """The name server of l4x, with the look of the one of checks/lib."""
@@ -74,6 +77,8 @@ def check_names(programs, l4d, l4sh, room, start):
             assert got == wanted, (got, wanted)
 
         want(ask(one, "lookup a"), ("0", 3, "N6: there is no name server (a)"))
+        for asked in ("register ", "lookup ", "lookup_wait 1000000 "):
+            want(ask(one, asked)[1:], (22, "N2: a name has 1 to 64 bytes of printable ASCII without the space"))
         names = start(server.path)
         want(ask(one, "register echo")[:2], ("0", 0))
         want(ask(two, "lookup echo")[:2], (f"{one.thread:x}", 0))
@@ -295,7 +300,25 @@ def check_worst(programs, l4d, room):
             # all but TUTORIAL's loop have told what they could not answer
             assert number == 40 or errors.count("got no answer: send phase to ") > 5 or number == 9, (number, errors)
             count += 1
-    return count + check_worst_of_cancel(programs, l4d, room) + check_driver(programs, l4d, room) + check_parts(programs, l4d, room)
+    return count + check_worst_of_cancel(programs, l4d, room) + check_unsendable(programs, l4d, room) + check_driver(programs, l4d, room) + check_parts(programs, l4d, room)
+
+
+def check_unsendable(programs, l4d, room):
+    """A server's answers that cannot be sent: each asker gets an empty message whose label says so, the server is told of it, and goes on."""
+    with Server(l4d, room) as server:
+        serving, asker = Say(programs["say"], server.dir, 1), Say(programs["say"], server.dir, 2)
+        serving.tell("serve")
+        labels = (0, 1, 2, 3, 1, 0)
+        for label in labels:
+            got = asker.ipc(to=serving.thread, source=serving.thread, rcv=0x2BE8, label=label)
+            assert got[:5] == ((FUNCTION_FAILED if label else 5) << 16, serving.thread, 0, 0, "-"), (label, got)
+        # one who does not wait for such an answer is no end of the server, either
+        assert asker.code(to=serving.thread, label=1) == 0
+        assert asker.code(to=serving.thread, label=9) == 0
+        assert serving.hear()[0] == "0 6"
+        serving.end()
+        asker.end()
+        return len(labels) + 3
 
 
 def check_driver(programs, l4d, room):

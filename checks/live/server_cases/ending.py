@@ -110,3 +110,22 @@ def terminal():
             told = subprocess.run(["sh", "-c", script], stdin=subprocess.DEVNULL, capture_output=True, text=True, timeout=20)
             assert (told.returncode, told.stderr) == (0, "") and not os.path.exists(f"{folder}/space1"), told
     return f"closed twice; one that could not end was ended {spent * 1000:.0f} ms after the second Ctrl-C; closed in scripts"
+
+
+def unread_pipe():
+    """SIGTERM ends an l4d that waits until somebody reads the pipe of its trace; it has not said that it listens."""
+    with tempfile.TemporaryDirectory() as folder:
+        os.mkfifo(f"{folder}/trace")
+        words = [BLOCKED, PROGRAM, "--dir", folder, "--spaces", "1", "--trace", f"{folder}/trace"]
+        with subprocess.Popen(words, stdin=subprocess.DEVNULL, stdout=subprocess.PIPE, stderr=subprocess.PIPE, text=True) as process:
+            try:
+                assert "l4d waits until somebody reads it" in process.stderr.readline()
+                begin = time.time()
+                process.terminate()
+                out, err = process.communicate(timeout=20)
+                spent = time.time() - begin
+            finally:
+                process.kill()
+        assert (process.returncode, out, err) == (0, "closed\n", ""), (process.returncode, out, err)
+        assert os.listdir(folder) == ["trace"], os.listdir(folder)
+    return f"closed, status 0 after {spent * 1000:.0f} ms"

@@ -1,5 +1,7 @@
 """Traces, and what is told."""
 
+import fcntl
+import mmap
 import os
 import re
 import resource
@@ -11,11 +13,13 @@ import time
 
 from frames import frame, hello, ipc
 from protocol_tables import FAULT, IPCR, K_NUMBER_TAKEN, REFUSED
-from server_cases.running import has, run, served
+from server_cases.running import BLOCKED, has, run, served
 from serving import Client, pair_works
 
 # With more entries than these before it a trace is far behind. A call to nobody makes two; so many processes make them.
 FAR_BEHIND, CALLERS = 524_288, 2
+# So many lines of a log are more than a pipe of four pages takes.
+LINES = 1000
 
 
 def traces():
@@ -124,3 +128,34 @@ def log():
                 " to 2.1 of space 1\n", "2 calls over", "2 faults", "1 refusals K2", " entries, ", " KiB")
             last = err.strip().splitlines()[-1]
     return last
+
+
+def stopped_log():
+    """Where nobody reads standard error any more, no client is held up by a line of it, nor is SIGTERM; how many lines were left out is told once it is read."""
+    with served("--log", before=(BLOCKED,)) as server:
+        told = server.process.stderr.fileno()
+        fcntl.fcntl(told, fcntl.F_SETPIPE_SZ, 4 * mmap.PAGESIZE)
+        pair = Client(server.path, 1), Client(server.path, 2)
+        other = Client(server.path, seconds=20)
+
+        def refused(times):
+            for _ in range(times):
+                assert other.ask(hello(1)) == (REFUSED, bytes([K_NUMBER_TAKEN]))
+
+        refused(LINES)
+        pair_works(pair)
+        os.set_blocking(told, False)
+        first = os.read(told, 1 << 20).decode()
+        refused(1)
+        second = os.read(told, 1 << 20).decode()
+        line = "l4d: refused K2 to a connection of space 1\n"
+        left_out = re.fullmatch(rf"l4d: standard error took nothing for a while: (\d+) lines were left out\n{line}", second)
+        assert left_out and first.count(line) + int(left_out[1]) == LINES, (first[-200:], second)
+        refused(LINES)
+        begin = time.time()
+        server.process.terminate()
+        # nothing of standard error is read before it has ended
+        assert server.process.wait(20) == 0
+        spent = time.time() - begin
+        os.set_blocking(told, True)
+    return f"{left_out[1]} of {LINES} lines were left out, and SIGTERM ended it after {spent * 1000:.0f} ms"

@@ -68,5 +68,5 @@ static const char *const errors[8] = {
 	[4] = "message overflow",
 	[5] = "an error without a name",
 	[6] = "an error without a name",
-	[7] = "aborted by another thread",
+	[7] = "aborted by another thread, or its partner ended",
 };

@@ -88,6 +88,12 @@ static bool is_owed(struct kept *kept, L4_ThreadId_t from)
 	return true;
 }
 
+/* Whether an answer was not sent since it is none: what the function loaded is at fault. */
+static bool is_unsendable(const struct failure *failure, L4_ThreadId_t unanswered)
+{
+	return failure->source == FOUND_HERE && !L4_IsNilThread(unanswered);
+}
+
 static L4_MsgTag_t reply_to(L4_ThreadId_t to)
 {
 	return L4_IsNilThread(to) ? L4_Niltag : L4_Reply(to);
@@ -97,6 +103,7 @@ int l4_serve(l4_answer_t answer, l4_trouble_t trouble, void *data)
 {
 	struct thread *thread = &l4_thread;
 	L4_ThreadId_t to = L4_nilthread, from;
+	bool tells_failure = false;
 
 	if (trouble == NULL)
 		trouble = print_trouble;
@@ -106,15 +113,21 @@ int l4_serve(l4_answer_t answer, l4_trouble_t trouble, void *data)
 		L4_MsgTag_t tag = is_due ? reply_to(to) : L4_ReplyWait_Timeout(to, patience, &from);
 
 		if (L4_IpcFailed(tag)) {
+			/* in place of what cannot be sent the asker is told so, once */
+			tells_failure = !tells_failure && is_unsendable(&thread->last, to);
 			if (!can_go_on(thread, &to))
 				return -1;
 			if (!is_for_names(&thread->last))
 				trouble(to, data);
-			to = L4_nilthread;
+			if (tells_failure)
+				thread->mr[0] = L4_FUNCTION_FAILED << 16;
+			else
+				to = L4_nilthread;
 		} else if (is_due) {
 			to = L4_nilthread;
 			keep_names(thread, trouble, data);
 		} else {
+			tells_failure = false;
 			to = is_owed(&thread->kept, from) ? L4_nilthread : have_answered(thread, answer, from, tag, data);
 		}
 	} while (thread->is_connected);

@@ -7,6 +7,7 @@
  *     mrs I WORDS, brs I WORDS          loads registers; I is decimal
  *     send TO, wait                     sends, or accepts, what the registers say
  *     register NAME, lookup NAME, list NAME
+ *     serve                             answers by the label what cannot be sent (1, 2, 3), and ends by label 9
  *     begin, readable, end              a wait in two parts, and whether its outcome has begun to come
  *     connect_wait MICROSECONDS DIR SPACE NUMBER VERSION, lookup_wait MICROSECONDS NAME, call_wait MICROSECONDS TO
  *     item SIZE, null, nowhere          sends a string of this size, at no address, at one that is not there;
@@ -408,6 +409,43 @@ static void list(const char *after)
 	printf("%d %s %llx", status, name, (unsigned long long) thread.raw);
 }
 
+/* Answers an empty message of label 5, and by the label of the request what cannot be sent: a string at no address, one
+ * more word than there can be, a register that is not there. */
+static L4_Bool_t answer_badly(L4_ThreadId_t from, L4_MsgTag_t tag, void *troubles)
+{
+	static const L4_Word_t list[2 * MOST];
+	L4_Msg_t msg;
+
+	(void) from, (void) troubles;
+	L4_MsgClear(&msg);
+	L4_Set_MsgLabel(&msg, 5);
+	if (L4_Label(tag) == 1)
+		L4_MsgAppendSimpleStringItem(&msg, L4_StringItem(1, NULL));
+	if (L4_Label(tag) == 2)
+		L4_MsgPut(&msg, 5, MOST, list, 0, NULL);
+	L4_MsgLoad(&msg);
+	if (L4_Label(tag) == 3)
+		L4_LoadMR(MOST, 1);
+	if (L4_Label(tag) == 9)
+		l4_disconnect();
+	return true;
+}
+
+static void count_trouble(L4_ThreadId_t to, void *troubles)
+{
+	/* what a function of the program does here changes no answer */
+	L4_LoadMR(0, 7);
+	*(unsigned *) troubles += !L4_IsNilThread(to);
+}
+
+static void serve(void)
+{
+	unsigned troubles = 0;
+	int status = l4_serve(answer_badly, count_trouble, &troubles);
+
+	printf("%d %u", status, troubles);
+}
+
 static void run(char *line)
 {
 	const char *command = part(&line, " ");
@@ -441,6 +479,8 @@ static void run(char *line)
 		printf("%llx", (unsigned long long) l4_lookup_wait(strchr(line, ' ') + 1, period(line)).raw);
 	else if (strcmp(command, "call_wait") == 0)
 		print_outcome(l4_call_wait(thread(strchr(line, ' ')), period(line)), L4_nilthread);
+	else if (strcmp(command, "serve") == 0)
+		serve();
 	else if (strcmp(command, "begin") == 0)
 		printf("%d", l4_ipc_begin(L4_nilthread, L4_anythread, L4_Timeouts(L4_Never, L4_Never)));
 	else if (strcmp(command, "end") == 0)

@@ -10,6 +10,7 @@ from .scripted import WORDS, said, scripted
 
 FIRST = ThreadId.of(1, 1)
 BAD_IDS = ("1.1", None, 1.5, [1], -1, 1 << 64)
+BAD_NAMES = ("", "a b", "a\n", "\u00e9", "n" * 65)
 BAD_SECONDS = ("1s", b"1", [1], -1, float("nan"), object())
 
 
@@ -53,8 +54,11 @@ ROWS = [
     ("function", lambda it: it.serve(7)),
     ("buffers[0]", lambda it: it.serve(print, [b"AB"])),
     ("tell", lambda it: it.serve(print, tell=7)),
-    *(("name", lambda it, bad=bad: names.Names(it).register(bad)) for bad in (7, None, b"x", "n" * 65)),
-    ("name", lambda it: names.Names(it).lookup(7)),
+    *(("name", lambda it, bad=bad: names.Names(it).register(bad)) for bad in (7, None, b"x", *BAD_NAMES)),
+    *(("name", lambda it, bad=bad: names.Names(it).lookup(bad)) for bad in (7, *BAD_NAMES)),
+    *(("name", lambda it, bad=bad: names.Names(it).wait_for(bad, 5)) for bad in BAD_NAMES),
+    *(("to", lambda it, bad=bad: it.call(bad)) for bad in BAD_NAMES),
+    *(("to", lambda it, bad=bad: it.send(bad, wait_for=5)) for bad in BAD_NAMES),
     *(("originator", lambda it, bad=bad: names.Names(it).register("x", bad)) for bad in ("1.1", 1.5, -1, 1 << 64, 10, 10 << 32)),
     ("thread", lambda it: names.Names("1.1")),
     ("thread", lambda it: names.lookup(7, "x")),
@@ -102,6 +106,8 @@ class Arguments(unittest.TestCase):
         thread, server = scripted(b"")
         for does, text in (
             (waits([b"AB"]), "buffers[0]: bytes cannot be written; a buffer is a size or a bytearray"),
+            (lambda it: it.call(""), "to: '' is no name; a name has 1 to 64 bytes of printable ASCII without the space"),
+            (lambda it: names.Names(it).lookup("a b"), "name: 'a b' is no name; a name has 1 to 64 bytes of printable ASCII without the space"),
             (lambda it: it.send("1.1"), "to: a thread id, as ThreadId.of(2, 1), is wanted, and not '1.1' (str)"),
             (sends(Message(0, [1.5])), "words[0]: an int of 64 bits is wanted, and not 1.5 (float)"),
             (sends(Message(0, [], ["abc"])), "strings[0]: bytes are wanted, and not 'abc' (str)"),

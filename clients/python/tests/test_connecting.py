@@ -299,7 +299,7 @@ class Texts(unittest.TestCase):
             (0x18, lambda it: it.send(FIRST, strings), "string 3, of 9 bytes, did not fit the receiver's buffers; nothing was delivered"),
             (0x8, lambda it: it.send(FIRST, strings), "string 1, of 1 byte, did not fit"),
             (0x19, lambda it: it.wait(), "a string did not fit the buffers, behind 1 byte that did; nothing was received"),
-            (0x10000E, lambda it: it.send(FIRST), "aborted by another thread (error 0x10000e) after 65536 bytes"),
+            (0x10000E, lambda it: it.send(FIRST), "aborted by another thread, or its partner ended (error 0x10000e) after 65536 bytes"),
         ]
         for code, does, text in rows:
             with self.subTest(hex(code)):

@@ -25,7 +25,7 @@ use std::sync::ledger::Ledger;
 use std::sync::{Arc, Mutex, Wait};
 use std::thread::{Scope, Threads};
 use std::time::Duration;
-use std::{io, thread};
+use std::{fmt, io, thread};
 
 /// How long the worker of signals sleeps in each turn, in milliseconds.
 const SIGNAL_TURN: u64 = 100;
@@ -115,8 +115,7 @@ fn log_counters<C: Naming, T: Ledger, R: Wait + Clock + Eprint>(
         let is_over = host
             .guests
             .wait_finished(server.rt, Duration::from_secs(LOG_TURN));
-        // where standard error fails nothing is told
-        let _ = server.rt.eprintln(&counters_now(server, host));
+        host.lines.tell(server.rt, &counters_now(server, host));
         if is_over {
             return;
         }
@@ -251,8 +250,24 @@ fn tell_wait<R: Wait + Clock + Eprint>(rt: &R, host: &Host, space: u64, is_told:
     }
     host.guests.count(rt, Notice::Waits);
     if host.is_logged {
-        // where standard error fails the line is lost
-        let _ = eprintln!(rt; "l4d: {} for a connection of space {space}", Notice::Waits);
+        host.lines.tell(rt, &Waiting { space });
+    }
+}
+
+/// A connection that waits for room, as the log says it.
+#[derive(Clone, Copy)]
+struct Waiting {
+    space: u64,
+}
+
+impl fmt::Display for Waiting {
+    fn fmt<W: fmt::Write>(&self, f: &mut fmt::Formatter<W>) -> fmt::Result {
+        let space = self.space;
+        write!(
+            f,
+            "l4d: {} for a connection of space {space}",
+            Notice::Waits
+        )
     }
 }
 

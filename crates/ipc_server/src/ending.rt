@@ -3,13 +3,16 @@ ghost use Rattle.ipc_server.specs.Ending.{EndsServed};
 
 use crate::exit::Exit;
 use crate::services::AllServed;
-use ipc_host::SocketPort;
+use ipc_host::{SocketPort, takes_lines};
 use ipc_lock::Naming;
 use std::io;
 use std::process::ExitCode;
 
 /// The status of a server that did not end as it was asked to.
 const FAILURE: u8 = 1;
+
+/// How long standard error has to take the last line, in milliseconds.
+const PATIENCE: i32 = 1_000;
 
 /// How the server ended. Where it ended well it served all connections that it had.
 #[derive(Drop)]
@@ -63,8 +66,10 @@ pub(crate) fn status_of<C: Naming, R: Eprint>(rt: &R, ending: &Ending<C>) -> io:
     }
 }
 
-/// Says on standard error why the server failed, and answers its status.
+/// Says on standard error why the server failed, if that takes it soon, and answers its status.
 pub(crate) fn ended<R: Eprint>(rt: &R, exit: &Exit) -> io::Result<ExitCode> {
-    rt.eprintln(exit)?;
+    if takes_lines(PATIENCE) {
+        rt.eprintln(exit)?;
+    }
     Ok(ExitCode::from(FAILURE))
 }

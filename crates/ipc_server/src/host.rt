@@ -4,7 +4,7 @@ use crate::meter::Meter;
 use crate::parts::Parts;
 use crate::paths::{Door, Listener};
 use crate::trace_fault::TraceStop;
-use ipc_host::{Guests, ProcessStatus, Readiness, have_come, may_be_blocked, resident};
+use ipc_host::{ErrorLines, Guests, ProcessStatus, Readiness, have_come, may_be_blocked, resident};
 use std::alloc::Global;
 use std::rt::Clock;
 use std::sync::Wait;
@@ -27,6 +27,8 @@ pub struct Host {
     /// How many connections each path takes before it closes; None where it never does.
     pub(crate) connections: Option<u16>,
     pub(crate) is_logged: bool,
+    /// What is said on standard error.
+    pub(crate) lines: ErrorLines,
     /// Whether a reader may look for a little while before it sleeps: where there are several
     /// processors.
     pub(crate) is_eager: bool,
@@ -78,15 +80,12 @@ impl Host {
 
     /// Closes a path that has had its connections. It is told, and what helps, where nobody asked
     /// for that number, where somebody was waiting, and in the log.
-    pub(crate) fn close_path<R: Eprint>(&self, rt: &R, listener: &Listener) {
+    pub(crate) fn close_path<R: Wait + Eprint>(&self, rt: &R, listener: &Listener) {
         let refused = listener.door.close_to_all();
         let most = self.connections.unwrap_or(u16::MAX);
         if self.is_logged || refused > 0 || most == u16::MAX {
-            let path = &listener.door.path;
-            // where standard error fails the line is lost
-            let _ = eprintln!(rt;
-                "l4d: {path} refuses connections from now on, since it has had {most}: a greater --connections helps, or --keep-open"
-            );
+            let path = listener.door.path.as_str();
+            self.lines.tell(rt, &Closing { path, most });
         }
     }
 
@@ -140,8 +139,7 @@ impl Host {
     pub(crate) fn complain<R: Wait + Clock + Eprint>(&self, rt: &R, what: &str, error: io::Error) {
         let (may, live) = self.guests.may_tell(rt);
         if may {
-            // where standard error fails nothing is told
-            let _ = rt.eprintln(&Complaint { what, error, live });
+            self.lines.tell(rt, &Complaint { what, error, live });
         }
     }
 
@@ -151,10 +149,7 @@ impl Host {
         let (may, live) = self.guests.may_tell_full(rt);
         if may {
             let bound = self.bound;
-            // where standard error fails nothing is told
-            let _ = eprintln!(rt;
-                "l4d: full: {live} connections are there, {bound}; a new one waits until one has ended"
-            );
+            self.lines.tell(rt, &Full { live, bound });
         }
     }
 }
@@ -168,6 +163,17 @@ pub enum Bound {
     Descriptors,
 }
 
+impl Bound {
+    /// What it is where so many may be there at one time, of those that `--live` lets in.
+    pub(crate) fn of(most: u64, live: u16) -> Bound {
+        if most < u64::from(live) {
+            Bound::Descriptors
+        } else {
+            Bound::Live
+        }
+    }
+}
+
 impl fmt::Display for Bound {
     fn fmt<W: fmt::Write>(&self, f: &mut fmt::Formatter<W>) -> fmt::Result {
         match self {
@@ -177,6 +183,40 @@ impl fmt::Display for Bound {
                 "and the limit of descriptors leaves no more: `ulimit -n 2048` before the start helps, or LimitNOFILE= in a unit"
             ),
         }
+    }
+}
+
+/// A path that has had its connections, as that is told.
+#[derive(Clone, Copy)]
+struct Closing<'a> {
+    path: &'a str,
+    most: u16,
+}
+
+impl fmt::Display for Closing<'_> {
+    fn fmt<W: fmt::Write>(&self, f: &mut fmt::Formatter<W>) -> fmt::Result {
+        let Closing { path, most } = *self;
+        write!(
+            f,
+            "l4d: {path} refuses connections from now on, since it has had {most}: a greater --connections helps, or --keep-open"
+        )
+    }
+}
+
+/// A server that has no room, as that is told.
+#[derive(Clone, Copy)]
+struct Full {
+    live: usize,
+    bound: Bound,
+}
+
+impl fmt::Display for Full {
+    fn fmt<W: fmt::Write>(&self, f: &mut fmt::Formatter<W>) -> fmt::Result {
+        let Full { live, bound } = *self;
+        write!(
+            f,
+            "l4d: full: {live} connections are there, {bound}; a new one waits until one has ended"
+        )
     }
 }
 

@@ -41,7 +41,9 @@ use exit::Exit;
 use followers::Followers;
 use host::{Bound, Host};
 use ipc_core::{Limits, MAX_CALLS, MAX_ENTRIES};
-use ipc_host::{Guests, ProcessStatus, Readiness, ServerClock, SocketPort, descriptors, room};
+use ipc_host::{
+    ErrorLines, Guests, ProcessStatus, Readiness, ServerClock, SocketPort, descriptors, room,
+};
 use ipc_lock::{BlankLog, Naming, SharedKernel};
 use l4sh_options::{ServerOptions, server_options};
 use meter::Meter;
@@ -308,13 +310,14 @@ fn host_of<C: Naming, T: Ledger, R: Threads + Files<File = File>>(
 ) -> Host {
     Host {
         guests: Guests::new(server.alloc, most, within(options), server.clock),
-        bound: bound_of(options, most),
+        bound: Bound::of(most, options.live),
         readiness,
         listeners,
         control,
         askers: AtomicU64::new(0),
         connections: (!options.keep_open).then_some(options.connections),
         is_logged: options.log,
+        lines: ErrorLines::new(server.alloc),
         is_eager: has_several_processors(server.rt),
         traced: nothing_traced(options),
         trace_stop: TraceStop::new(),
@@ -323,15 +326,6 @@ fn host_of<C: Naming, T: Ledger, R: Threads + Files<File = File>>(
         followers: Followers::new(server.alloc),
         signals: ProcessStatus::open(server.rt),
         memory: ProcessStatus::open(server.rt),
-    }
-}
-
-/// What keeps further connections out where so many are there.
-fn bound_of(options: &ServerOptions<'_>, most: u64) -> Bound {
-    if most < u64::from(options.live) {
-        Bound::Descriptors
-    } else {
-        Bound::Live
     }
 }
 

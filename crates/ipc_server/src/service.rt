@@ -61,10 +61,12 @@ where
         + Sync,
 {
     let rt = server.rt;
-    println!(rt; "listening {}", options.spaces)?;
-    tell_ready(rt, server.alloc, host, options.spaces);
-    if host.is_logged {
-        tell_paths(rt, &host.listeners);
+    if !host.guests.is_stopping(rt) {
+        println!(rt; "listening {}", options.spaces)?;
+        tell_ready(rt, server.alloc, host, options.spaces);
+        if host.is_logged {
+            tell_paths(rt, &host.listeners);
+        }
     }
     if options.probe {
         serve_with_client(server, host, options, services)

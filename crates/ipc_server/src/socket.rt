@@ -6,7 +6,7 @@ use crate::serving::Link;
 use ipc_host::Notice;
 use ipc_session::Gate;
 use ipc_words::ThreadId;
-use std::io;
+use std::fmt;
 use std::net::Shutdown;
 use std::os::unix::net::UnixStream;
 use std::sync::Wait;
@@ -25,17 +25,39 @@ pub struct Guest<'a, R: Wait + Eprint> {
 }
 
 impl<R: Wait + Eprint> Guest<'_, R> {
-    /// Says on standard error what its thread is told.
-    fn tell_of_thread(&self, notice: Notice, thread: ThreadId) -> io::Result<()> {
-        let (rt, space) = (self.rt, self.space);
-        let (number, version) = (thread.number(), thread.version());
-        eprintln!(rt; "l4d: {notice} to {number}.{version} of space {space}")
+    /// Says on standard error what it is told, as the thread that it is, or as none.
+    fn tell(&self, notice: Notice, thread: Option<ThreadId>) {
+        let told = ToldGuest {
+            notice,
+            thread,
+            space: self.space,
+        };
+        self.host.lines.tell(self.rt, &told);
     }
+}
 
-    /// Says on standard error what it is told that is no thread.
-    fn tell_of_connection(&self, notice: Notice) -> io::Result<()> {
-        let (rt, space) = (self.rt, self.space);
-        eprintln!(rt; "l4d: {notice} to a connection of space {space}")
+/// What a connection is told, as the log says it.
+#[derive(Clone, Copy)]
+struct ToldGuest {
+    notice: Notice,
+    thread: Option<ThreadId>,
+    space: u64,
+}
+
+impl fmt::Display for ToldGuest {
+    fn fmt<W: fmt::Write>(&self, f: &mut fmt::Formatter<W>) -> fmt::Result {
+        let ToldGuest {
+            notice,
+            thread,
+            space,
+        } = *self;
+        match thread {
+            Some(thread) => {
+                let (number, version) = (thread.number(), thread.version());
+                write!(f, "l4d: {notice} to {number}.{version} of space {space}")
+            }
+            None => write!(f, "l4d: {notice} to a connection of space {space}"),
+        }
     }
 }
 
@@ -109,13 +131,11 @@ impl<R: Wait + Eprint> Link for SocketGate<'_, R> {
         if !self.guest.host.is_logged {
             return;
         }
-        // where standard error fails the line is lost
-        let _ = match (notice, thread) {
-            (Notice::Fault(_, _), Some(thread)) => self.guest.tell_of_thread(notice, thread),
-            (Notice::Fault(_, _) | Notice::Refused(_), None) => {
-                self.guest.tell_of_connection(notice)
+        match (notice, thread) {
+            (Notice::Fault(_, _), _) | (Notice::Refused(_), None) => {
+                self.guest.tell(notice, thread);
             }
-            _ => Ok(()),
-        };
+            _ => {}
+        }
     }
 }

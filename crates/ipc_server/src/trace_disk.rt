@@ -40,6 +40,9 @@ pub trait TraceDisk {
     /// Whether a pipe is there, which opens once somebody reads it.
     fn is_pipe(&self, path: &str) -> bool;
 
+    /// Opens a pipe at both ends, and closes it: who waits until somebody reads it waits no more.
+    fn release_pipe(&self, path: &str) -> io::Result<()>;
+
     /// Gives a file another name.
     fn rename_file(&self, from: &str, to: &str) -> io::Result<()>;
 
@@ -82,6 +85,13 @@ impl TraceDisk for HostRuntime {
             Ok(found) => found.file_type().is_fifo(),
             Err(_) => false,
         }
+    }
+
+    fn release_pipe(&self, path: &str) -> io::Result<()> {
+        let mut options = OpenOptions::new();
+        options.read(true).write(true);
+        drop(options.open(self, path)?);
+        Ok(())
     }
 
     fn rename_file(&self, from: &str, to: &str) -> io::Result<()> {

@@ -30,7 +30,7 @@ const BUFFER: usize = 65_536;
 const MOST_FILES: u32 = u32::MAX;
 
 /// Where a trace is written to.
-type FilePort<'a, L> = WritePort<BufWriter<MeteredFile<'a>>, L>;
+pub(crate) type FilePort<'a, L> = WritePort<BufWriter<MeteredFile<'a>>, L>;
 
 /// The files of a trace.
 #[derive(Clone, Copy)]

@@ -10,7 +10,7 @@ use crate::service::serve_and_close;
 use crate::services::{AllServed, Services};
 use crate::trace_disk::TraceDisk;
 use crate::trace_fault::{Told, TraceFault};
-use crate::trace_files::TraceFiles;
+use crate::trace_files::{FilePort, TraceFiles};
 use crate::tracing::Trace;
 use ipc_base::{Failures, PortWrite};
 use ipc_host::SocketPort;
@@ -21,9 +21,14 @@ use std::marker::Brand;
 use std::net::{Net, TcpListener, TcpStream};
 use std::rt::{Clock, Files};
 use std::sync::Wait;
+use std::sync::atomic::{AtomicBool, Ordering};
 use std::sync::ledger::{Blank, Ledger};
 use std::thread;
 use std::thread::Threads;
+use std::time::Duration;
+
+/// How long the worker that watches a pipe sleeps in each turn, in milliseconds.
+const PIPE_TURN: u64 = 100;
 
 /// Serves the paths, with a trace where one is asked for.
 pub(crate) fn serve_as_asked<C: Naming + Send, T: Ledger + Send, R>(
@@ -96,12 +101,71 @@ where
 {
     tell_pipe(server.rt, options);
     let files = TraceFiles::new(options, &host.meter, start_of(server));
-    match files.begin(server.rt, server.alloc, Failures::<L>::new(writes)) {
+    let begun = begin_trace(server, host, options, files, Failures::<L>::new(writes));
+    if host.guests.is_stopping(server.rt) {
+        drop(begun);
+        return serve_untraced(server, host, options, true, services);
+    }
+    match begun {
         Ok(trace) => serve_beside(server, host, options, files, trace, services),
         Err(fault) => {
             let fault = fault.with_reason(host.meter.reason());
             serve_without(server, host, options, fault, services)
         }
+    }
+}
+
+/// Opens the first file of the trace. A pipe opens once somebody reads it; a signal that comes
+/// before that stops the service.
+fn begin_trace<'a, C: Naming + Send, T: Ledger + Send, L: Ledger + Send, R>(
+    server: &Server<'_, C, T, SocketPort, R>,
+    host: &'a Host,
+    options: &ServerOptions<'a>,
+    files: TraceFiles<'a>,
+    failures: Failures<L>,
+) -> Result<Trace<FilePort<'a, L>>, TraceFault>
+where
+    R: Threads + Wait + Clock + TraceDisk + Sync,
+{
+    let path = options.trace.unwrap_or("");
+    if !server.rt.is_pipe(path) {
+        return files.begin(server.rt, server.alloc, failures);
+    }
+    let is_open = AtomicBool::new(false);
+    let is_open = &is_open;
+    let (begun, ()) = thread::join(
+        server.rt,
+        move || {
+            let begun = files.begin(server.rt, server.alloc, failures);
+            is_open.store(true, Ordering::SeqCst);
+            begun
+        },
+        move || watch_pipe(server, host, path, is_open),
+    );
+    begun
+}
+
+/// Stops the service where SIGINT or SIGTERM comes before somebody reads a pipe.
+fn watch_pipe<C: Naming, T: Ledger, R: Wait + Clock + TraceDisk>(
+    server: &Server<'_, C, T, SocketPort, R>,
+    host: &Host,
+    path: &str,
+    is_open: &AtomicBool,
+) {
+    if !host.has_blocked_signals(server.alloc) {
+        return;
+    }
+    for _ in server.rt.forever() {
+        if is_open.load(Ordering::SeqCst) {
+            return;
+        }
+        if host.has_signal(server.alloc) {
+            host.stop(server.rt);
+            // where that fails, l4d waits on
+            let _ = server.rt.release_pipe(path);
+            return;
+        }
+        thread::sleep(server.rt, Duration::from_millis(PIPE_TURN));
     }
 }
 
@@ -214,6 +278,6 @@ where
 fn stopped<R: Wait + Eprint>(rt: &R, host: &Host, options: &ServerOptions<'_>, fault: TraceFault) {
     host.trace_stop.note(rt, fault);
     let path = options.trace.unwrap_or("");
-    // where standard error fails too, the exit status still says it
-    let _ = rt.eprintln(&Told { fault, path });
+    // where standard error takes nothing, the exit status still says it
+    host.lines.tell(rt, &Told { fault, path });
 }

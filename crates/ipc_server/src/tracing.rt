@@ -200,7 +200,7 @@ impl<P: PortWrite> Trace<P> {
         host.followers.hand(server.rt, self.count, group);
         self.put_lines(group)?;
         let left = server.shared.mark_traced(server.rt, self.count);
-        self.tell_when_far_behind(server.rt, left);
+        self.tell_when_far_behind(server.rt, host, left);
         if left == 0 {
             self.writer.flush()?;
             thread::sleep(server.rt, Duration::from_millis(PAUSE));
@@ -223,13 +223,12 @@ impl<P: PortWrite> Trace<P> {
 
     // Says on standard error that so many entries wait, where they are many and it was not said
     // since none was left.
-    fn tell_when_far_behind<R: Eprint>(&mut self, rt: &R, left: usize)
+    fn tell_when_far_behind<R: Wait + Eprint>(&mut self, rt: &R, host: &Host, left: usize)
         ensures writer { self.new.writer ≡ self.old.writer }
         ensures count { self.new.count ≡ self.old.count }
     {
         if left > FAR_BEHIND && !self.is_told {
-            // where standard error fails the line is lost
-            let _ = rt.eprintln(&Behind { entries: left });
+            host.lines.tell(rt, &Behind { entries: left });
             self.is_told = true;
         }
         if left == 0 {

@@ -26,16 +26,34 @@ pub(crate) fn sending_call(
     entered(alloc, number, caller, fields)
 }
 
-/// A call that receives the message of another one from a thread, behind one that it sends.
+/// A call that passes an empty message on, in the name of another thread.
+pub(crate) fn passing_call(
+    alloc: Global,
+    number: u64,
+    caller: ThreadId,
+    to: ThreadId,
+    originator: ThreadId,
+) -> Result<Entry, AllocError> {
+    let mut fields = fields(alloc, to, ThreadId::NILTHREAD, None);
+    fields.tag = MsgTag::EMPTY.with_propagated(true);
+    fields.originator = originator;
+    entered(alloc, number, caller, fields)
+}
+
+/// A call that receives the message of another one from a thread, behind one that it sends. Without
+/// that one the message has no strings.
 pub(crate) fn receiving_call(
     alloc: Global,
     number: u64,
     caller: ThreadId,
     to: ThreadId,
     from: ThreadId,
-    message: &Call,
+    message: Option<&Call>,
 ) -> Result<Entry, AllocError> {
-    let buffers = buffers_for(alloc, message.strings())?;
+    let buffers = match message {
+        Some(message) => buffers_for(alloc, message.strings())?,
+        None => BufferList::new(alloc),
+    };
     let fields = fields(alloc, to, from, Some(buffers));
     entered(alloc, number, caller, fields)
 }

@@ -1,6 +1,6 @@
 // Calls that are ended, of which a part keeps no end: those that count as over, and those that it
 // tells to have failed.
-use crate::calls::sending_call;
+use crate::calls::{passing_call, sending_call};
 use crate::guide::{Guide, Turn, is_receiving, live};
 use ipc_history::{Entry, Input, Output};
 use ipc_threads::{Slots, Standing};
@@ -82,8 +82,23 @@ impl Guide<'_> {
                 *sending,
                 IpcError::cancelled(Phase::Send),
             ),
+            Output::Turned(number, to) => self.pass_on(slots, *number, *to),
             _ => Ok(Turn::Lost),
         }
+    }
+
+    /// What turns an open call: the thread for which it waits passes a message on to another one,
+    /// in the name of its caller.
+    fn pass_on(&self, slots: &Slots, number: u64, to: ThreadId) -> Result<Turn, AllocError> {
+        let Some(call) = open_call(slots, number) else {
+            return Ok(Turn::Lost);
+        };
+        if !is_free(slots, call.awaited) {
+            return Ok(Turn::Lost);
+        }
+        let next = slots.calls_made().saturating_add(1);
+        let entry = passing_call(self.alloc, next, call.awaited, to, call.caller)?;
+        Ok(Turn::Entry(entry))
     }
 
     /// What brings the failure of an open call.

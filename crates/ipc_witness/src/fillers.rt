@@ -94,6 +94,26 @@ impl Guide<'_> {
         }
     }
 
+    /// A thread ends that is live and not kept, and must not be there when a kept call comes: the
+    /// originator of a p that is dropped, or the partner for lack of whom the call fails.
+    pub(crate) fn end_absent(&self, slots: &Slots, number: u64, call: &Call) -> Option<Turn> {
+        let originator = call.originator();
+        if call.tag().propagates() && self.is_stray(slots, originator) {
+            return Some(broke(originator));
+        }
+        let lacked = self.wanted.lacked(number)?;
+        if self.is_stray(slots, lacked) {
+            Some(broke(lacked))
+        } else {
+            None
+        }
+    }
+
+    /// Whether a thread is live of which no kept entry tells.
+    fn is_stray(&self, slots: &Slots, thread: ThreadId) -> bool {
+        slots.is_live(thread) && self.wanted.place_opened(thread) == 0
+    }
+
     /// A thread opens for which a kept call is to wait, and that is to end.
     pub(crate) fn open_partner(
         &self,
@@ -103,18 +123,21 @@ impl Guide<'_> {
         call: &Call,
     ) -> Option<Turn> {
         let lack = self.wanted.lack_of(number);
+        let turning = self.wanted.relay_of(number);
         if call.to() != ThreadId::NILTHREAD {
             if lack == Some(place) {
                 return None;
             }
-            if let Some(entry) = self.open_for(slots, call.to(), call.to()) {
+            let beside = turning.unwrap_or(call.to());
+            if let Some(entry) = self.open_for(slots, call.to(), beside) {
                 return Some(Turn::Entry(entry));
             }
         }
         if lack.is_some() || self.wanted.is_over(number) {
             return None;
         }
-        Some(Turn::Entry(self.open_for(slots, call.from(), call.from())?))
+        let beside = turning.unwrap_or(call.from());
+        Some(Turn::Entry(self.open_for(slots, call.from(), beside)?))
     }
 
     /// The space of a thread where it is live.

@@ -177,7 +177,10 @@ impl<'a> Guide<'a> {
             Entry::Written(output) => Some(self.bring(slots, output)?),
             Entry::Given(Input::Called(number, _, call)) => match self.reach(slots, *number)? {
                 Some(turn) => Some(turn),
-                None => self.open_partner(slots, place, *number, call.call()),
+                None => match self.end_absent(slots, *number, call.call()) {
+                    Some(turn) => Some(turn),
+                    None => self.open_partner(slots, place, *number, call.call()),
+                },
             },
             Entry::Given(Input::Opened(thread, space)) => { self.make_way(slots, *thread, *space)? }
             Entry::Given(Input::Broke(_)) => self.end_others(slots)?,
@@ -211,14 +214,8 @@ impl<'a> Guide<'a> {
             return self.fill(slots);
         }
         let wanted = self.wanted;
-        let Some(Entry::Given(Input::Called(_, caller, call))) = wanted.kept.get(receipt.sending)
-        else {
+        let Some(Coming { caller, from, call }) = coming(slots, wanted, receipt.sending) else {
             return Ok(Turn::Lost);
-        };
-        let from = if slots.is_live(*caller) {
-            shown(slots, *caller, call.call())
-        } else {
-            ThreadId::ANYTHREAD
         };
         if is_free(slots, receipt.thread) {
             self.go_on();
@@ -227,14 +224,14 @@ impl<'a> Guide<'a> {
                 sending: receipt.sending,
             })?;
             let to = if receipt.is_answer {
-                *caller
+                caller
             } else {
                 ThreadId::NILTHREAD
             };
-            let call = receiving_call(self.alloc, next, receipt.thread, to, from, call.call())?;
+            let call = receiving_call(self.alloc, next, receipt.thread, to, from, call)?;
             return Ok(Turn::Entry(call));
         }
-        match self.open_for(slots, receipt.thread, *caller) {
+        match self.open_for(slots, receipt.thread, caller) {
             Some(entry) => Ok(Turn::Entry(entry)),
             None => {
                 // it waits already, or can not
@@ -251,11 +248,17 @@ impl<'a> Guide<'a> {
         if self.budget.is_last(call.caller, call.number) {
             return true;
         }
-        if let Phase::Taking(sending, _, _) = call.phase {
+        let other = match call.phase {
             // bytes of the message that it takes may still be to move
-            if self.wanted.names_from(self.passed, sending) {
-                return true;
-            }
+            Phase::Taking(sending, _, _) => Some(sending),
+            // its transfer is over as the kept entries tell of its receiver
+            Phase::Passing(receiving) => Some(receiving),
+            _ => None,
+        };
+        if let Some(other) = other
+            && self.wanted.names_from(self.passed, other)
+        {
+            return true;
         }
         for waiter in self.waiters.as_slice() {
             if waiter.number == call.number && self.passed <= waiter.sending {
@@ -297,6 +300,46 @@ pub(crate) fn live(slots: &Slots, number: usize) -> Option<ThreadId> {
         slots.thread_at(number)
     } else {
         None
+    }
+}
+
+/// A message that a thread is to wait for.
+#[derive(Clone, Copy)]
+struct Coming<'a> {
+    /// Who is to be live where it is sent: its sender, or in whose name it is passed on.
+    caller: ThreadId,
+    /// From whom it comes.
+    from: ThreadId,
+    /// The call that sends it, where that is kept.
+    call: Option<&'a Call>,
+}
+
+/// The message of the kept call at a place, or that brings the kept `turned` entry there.
+fn coming<'a>(slots: &Slots, wanted: Wanted<'a>, place: usize) -> Option<Coming<'a>> {
+    match wanted.kept.get(place)? {
+        Entry::Given(Input::Called(_, caller, call)) => Some(Coming {
+            caller: *caller,
+            from: if_live(slots, *caller, shown(slots, *caller, call.call())),
+            call: Some(call.call()),
+        }),
+        Entry::Written(Output::Turned(number, _)) => {
+            let caller = wanted.caller(*number)?;
+            Some(Coming {
+                caller,
+                from: if_live(slots, caller, caller),
+                call: None,
+            })
+        }
+        _ => None,
+    }
+}
+
+/// From whom a message of a thread comes where that is live; else any thread.
+fn if_live(slots: &Slots, caller: ThreadId, from: ThreadId) -> ThreadId {
+    if slots.is_live(caller) {
+        from
+    } else {
+        ThreadId::ANYTHREAD
     }
 }
 

@@ -1,7 +1,7 @@
 // The messages of kept calls that count as over, where no kept entry tells who received them: the
 // receiver makes a call for it that is not kept.
 use crate::wanted::Wanted;
-use ipc_history::{Call, Entry, Input};
+use ipc_history::{Call, Entry, Input, Output};
 use ipc_words::{Period, ThreadId};
 use std::alloc::{AllocError, Global};
 
@@ -10,7 +10,7 @@ use std::alloc::{AllocError, Global};
 pub(crate) struct Message {
     /// Who receives it.
     pub thread: ThreadId,
-    /// The place of the call that sends it.
+    /// The place of the call that sends it, or of the `turned` entry that it brings.
     pub sending: usize,
     /// From which place on its receiver can wait for it, and up to which one.
     pub free: usize,
@@ -30,8 +30,18 @@ pub(crate) struct Message {
 pub(crate) struct Pair {
     /// The number of the call that receives it.
     pub number: u64,
-    /// The place of the call that sends it.
+    /// The place of the call that sends it, or of the `turned` entry that it brings.
     pub sending: usize,
+}
+
+/// A call that passes a message on in the name of another thread, of which a `turned` entry alone
+/// is kept.
+#[derive(Clone, Copy)]
+pub(crate) struct Relay {
+    /// Who makes it.
+    pub by: ThreadId,
+    /// The place of that entry.
+    pub place: usize,
 }
 
 /// The messages of kept calls of which no kept entry tells that they were received.
@@ -41,6 +51,8 @@ pub(crate) struct Messages {
     pub pairs: Vec<Pair>,
     /// The others, for each of which a call is made that is not kept.
     pub others: Vec<Message>,
+    /// The calls that pass one on, which are not kept either.
+    pub relays: Vec<Relay>,
 }
 
 /// The messages, in the order of their calls. No kept call receives those of the calls at these
@@ -53,13 +65,19 @@ pub(crate) fn find_messages(
     let mut messages = Messages {
         pairs: Vec::new(alloc),
         others: Vec::new(alloc),
+        relays: Vec::new(alloc),
     };
     for place in 0..wanted.kept.len() {
-        if let Entry::Given(Input::Called(number, caller, call)) = &wanted.kept[place] {
-            if is_untold(wanted, place, *number, call.call()) {
-                let is_apart = apart.iter().any(|other| *other == place);
+        let is_apart = apart.iter().any(|other| *other == place);
+        match &wanted.kept[place] {
+            Entry::Given(Input::Called(number, caller, call))
+                if is_untold(wanted, place, *number, call.call()) => {
                 messages.add(wanted, place, *number, *caller, call.call(), is_apart)?;
             }
+            Entry::Written(Output::Turned(number, to)) => {
+                messages.relay(wanted, place, *number, *to, is_apart)?;
+            }
+            _ => {}
         }
     }
     Ok(messages)
@@ -107,6 +125,63 @@ impl Messages {
         Ok(())
     }
 
+    /// Adds the message by which a receive is turned to a thread, where no kept call sends it.
+    fn relay(
+        &mut self,
+        wanted: Wanted<'_>,
+        place: usize,
+        number: u64,
+        to: ThreadId,
+        is_apart: bool,
+    ) -> Result<(), AllocError> {
+        let Some((originator, by)) = wanted.relay_at(place, number) else {
+            return Ok(());
+        };
+        self.relays.push(Relay { by, place })?;
+        if !is_apart {
+            if let Some(number) = self.receiver_before(wanted, place, originator, to) {
+                self.pairs.push(Pair {
+                    number,
+                    sending: place,
+                })?;
+                return Ok(());
+            }
+        }
+        self.others.push(Message {
+            thread: to,
+            sending: place,
+            free: free_from(wanted, place, to).max(known_from(wanted, place, originator, to)),
+            until: place,
+            first: 0,
+            last: place,
+            is_patient: false,
+            is_answer: false,
+        })?;
+        Ok(())
+    }
+
+    /// The last kept call of a receiver before a place, where it may receive a message there.
+    fn receiver_before(
+        &self,
+        wanted: Wanted<'_>,
+        place: usize,
+        sender: ThreadId,
+        receiver: ThreadId,
+    ) -> Option<u64> {
+        for before in (0..place.min(wanted.kept.len())).rev() {
+            if let Some(number) = wanted.call_by(before, receiver) {
+                return if self.can_receive(wanted, before, sender)
+                    && first_asking(wanted, place, receiver, number) == place
+                {
+                    Some(number)
+                } else {
+                    None
+                };
+            }
+        }
+        None
+    }
+
     /// The kept call of the sender of a message that may have received one of its receiver before.
     fn asked(
         &self,
@@ -137,15 +212,8 @@ impl Messages {
         caller: ThreadId,
         call: &Call,
     ) -> Option<u64> {
-        for before in (0..place.min(wanted.kept.len())).rev() {
-            if let Some(number) = wanted.call_by(before, call.to()) {
-                if self.can_receive(wanted, before, caller)
-                    && first_asking(wanted, place, call.to(), number) == place
-                {
-                    return Some(number);
-                }
-                break;
-            }
+        if let Some(number) = self.receiver_before(wanted, place, caller, call.to()) {
+            return Some(number);
         }
         if !is_patient(call) {
             return None;

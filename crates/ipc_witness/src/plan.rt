@@ -1,7 +1,7 @@
 // The steps to a history that ends as a part says, and who makes the calls between them.
 use crate::allotment::Allotment;
 use crate::budget::Budget;
-use crate::messages::{Message, Messages, Pair, find_messages};
+use crate::messages::{Message, Messages, Pair, Relay, find_messages};
 use crate::wanted::Wanted;
 use crate::windows::{Windows, find_windows};
 use ipc_words::ThreadId;
@@ -22,7 +22,8 @@ pub(crate) enum Step {
 pub(crate) struct Receipt {
     /// Who receives it.
     pub thread: ThreadId,
-    /// The place of the sending call among the kept entries.
+    /// The place of the sending call among the kept entries, or of the `turned` entry that its
+    /// message brings.
     pub sending: usize,
     /// The number that it has at the earliest.
     pub number: u64,
@@ -73,14 +74,18 @@ fn draft(alloc: Global, wanted: Wanted<'_>, apart: &[usize]) -> Result<Plan, All
     for message in messages.others.as_slice() {
         let _ = budget.take(message.thread);
     }
+    for relay in messages.relays.as_slice() {
+        let _ = budget.take(relay.by);
+    }
     let Windows { windows, others } = find_windows(alloc, wanted, &budget, &messages)?;
     let Messages {
         pairs,
         others: messages,
+        relays,
     } = messages;
     let makers = TABLE_SLOTS.saturating_add(messages.len());
     let mut allotment = Allotment::new(alloc, makers, windows, rooms(alloc, wanted)?)?;
-    let mut missing: u64 = 0;
+    let mut missing = keep_room(wanted, &mut allotment, relays.as_slice());
     for at in 0..messages.len() {
         allow(wanted, &mut allotment, receiver(at), &messages[at])?;
         let given = allotment.give(receiver(at), 1)?;
@@ -101,6 +106,17 @@ fn draft(alloc: Global, wanted: Wanted<'_>, apart: &[usize]) -> Result<Plan, All
         missing,
         others,
     })
+}
+
+/// Keeps room for the calls that pass a message on. Says for how many there is none.
+fn keep_room(wanted: Wanted<'_>, allotment: &mut Allotment, relays: &[Relay]) -> u64 {
+    let mut missing: u64 = 0;
+    for relay in relays {
+        if !allotment.narrow(wanted.gap_at(relay.place)) {
+            missing = missing.saturating_add(1);
+        }
+    }
+    missing
 }
 
 /// As which maker of calls the receiver of a message counts, for this one.

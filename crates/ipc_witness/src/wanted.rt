@@ -140,6 +140,75 @@ impl Wanted<'_> {
         None
     }
 
+    /// Of a call whose receive is turned at a place: its caller, and who passes the message on that
+    /// turns it. None where a kept call does that.
+    pub fn relay_at(&self, place: usize, number: u64) -> Option<(ThreadId, ThreadId)> {
+        let (caller, by) = self.awaiting_at(place, number)?;
+        if let Some(Entry::Written(Output::Began(sending, _))) = self
+            .kept
+            .get(place.checked_sub(1)?)
+            && self.caller(*sending) == Some(by)
+        {
+            return None;
+        }
+        Some((caller, by))
+    }
+
+    /// The caller of a kept call, and for whom it waits before a place.
+    fn awaiting_at(&self, place: usize, number: u64) -> Option<(ThreadId, ThreadId)> {
+        let mut awaiting = None;
+        for at in 0..place.min(self.kept.len()) {
+            match &self.kept[at] {
+                Entry::Given(Input::Called(called, caller, call)) if *called == number => {
+                    awaiting = Some((*caller, call.call().from()));
+                }
+                Entry::Written(Output::Turned(turned, to)) if *turned == number => {
+                    awaiting = Some((awaiting?.0, *to));
+                }
+                _ => {}
+            }
+        }
+        awaiting
+    }
+
+    /// The caller of a kept call.
+    pub fn caller(&self, number: u64) -> Option<ThreadId> {
+        for entry in self.kept {
+            if let Some((caller, _)) = entry.call(number) {
+                return Some(caller);
+            }
+        }
+        None
+    }
+
+    /// The caller of a kept call whose receive is turned: who turns it is of the same space.
+    pub fn relay_of(&self, number: u64) -> Option<ThreadId> {
+        for entry in self.kept {
+            match entry {
+                Entry::Written(Output::Turned(turned, _)) if *turned == number => {
+                    return self.caller(number);
+                }
+                _ => {}
+            }
+        }
+        None
+    }
+
+    /// The partner for lack of whom a kept call fails at once, before its send phase or behind it.
+    pub fn lacked(&self, number: u64) -> Option<ThreadId> {
+        let place = self.lack_of(number)?;
+        for at in 0..self.kept.len() {
+            if let Some((_, call)) = self.kept[at].call(number) {
+                return if at == place && call.to() != ThreadId::NILTHREAD {
+                    Some(call.to())
+                } else {
+                    Some(call.from())
+                };
+            }
+        }
+        None
+    }
+
     /// Whether two kept threads are in one space.
     pub fn are_beside(&self, thread: ThreadId, other: ThreadId) -> bool {
         let space = self.space_of(thread);

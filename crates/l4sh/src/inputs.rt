@@ -8,7 +8,7 @@ use crate::exit::Exit;
 use crate::kept::KeptPort;
 use crate::live::talk_to_server;
 use crate::opening::of_input;
-use crate::prompted::PromptedPort;
+use crate::prompted::{PromptedPort, Watch};
 use crate::talk::talk_with;
 use crate::terminal::{is_told_at_terminal, prompt};
 use crate::watched::WatchedPort;
@@ -86,8 +86,11 @@ pub(crate) fn talk_from_input<L: Ledger, R: Input + Print + Eprint + Net, W: Por
     reads: Failures<L>,
     writer: &mut W,
 ) -> Ending {
-    let mut reader = PromptedPort::new(rt, ReadPort::new(rt.reader(), reads), prompt());
-    Ending::WithServer(talk_to_server(rt, alloc, options, &mut reader, writer))
+    let watch = Watch::new();
+    let typed = ReadPort::new(rt.reader(), reads);
+    let mut reader = PromptedPort::new(rt, typed, prompt(), &watch);
+    let talked = talk_to_server(rt, alloc, options, &watch, &mut reader, writer);
+    Ending::WithServer(talked)
 }
 
 fn kernel_limits(limits: &ScriptLimits) -> Limits

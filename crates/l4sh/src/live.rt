@@ -2,6 +2,7 @@ ghost use Rattle.std.specs.Prelude.{◌≡◌, ◌+◌, ◌<◌, []};
 ghost use Rattle.l4sh.specs.Talking.{EndsOver};
 
 use crate::asking::connect_reason;
+use crate::prompted::Watch;
 use ipc_base::{Failures, Past, PortRead, PortWrite, ReadPort, WritePort};
 use ipc_client::{Client, PATIENCE, PatientStream, Waiter};
 use ipc_host::{NotingReader, NotingWriter};
@@ -40,13 +41,15 @@ impl<N: Eprint> Waiter for Typist<'_, N> {
 }
 
 /// Connects to a space of the server of a folder, and talks as one of its threads. A server that
-/// lets it wait is told on standard error. Without memory there is no reason.
+/// lets it wait is told on standard error. Without memory there is no reason. The connection is
+/// watched while the reader waits, which may end the talk.
 ///
 /// It ends as `DeviceFailed` only where a call of the reader or of the writer failed in this talk.
 pub fn talk_to_server<N: Net + Eprint, R: PortRead, W: PortWrite>(
     rt: &N,
     alloc: Global,
     options: &TalkOptions<'_>,
+    watch: &Watch,
     reader: &mut R,
     writer: &mut W,
 ) -> Talked
@@ -55,7 +58,15 @@ pub fn talk_to_server<N: Net + Eprint, R: PortRead, W: PortWrite>(
         < R.failures reader.new + W.failures writer.new }
 {
     match path_of(alloc, options) {
-        Ok(path) => talk_at(rt, alloc, path.as_str(), options.thread, reader, writer),
+        Ok(path) => talk_at(
+            rt,
+            alloc,
+            path.as_str(),
+            options.thread,
+            watch,
+            reader,
+            writer,
+        ),
         Err(_) => Talked {
             ending: Ending::NoMemory,
             reason: None,
@@ -69,6 +80,7 @@ fn talk_at<N: Net + Eprint, R: PortRead, W: PortWrite>(
     alloc: Global,
     path: &str,
     number: u16,
+    watch: &Watch,
     reader: &mut R,
     writer: &mut W,
 ) -> Talked
@@ -77,7 +89,7 @@ fn talk_at<N: Net + Eprint, R: PortRead, W: PortWrite>(
         < R.failures reader.new + W.failures writer.new }
 {
     match UnixStream::connect(rt, path) {
-        Ok(stream) => talk_along(rt, alloc, path, &stream, number, reader, writer),
+        Ok(stream) => talk_along(rt, alloc, path, &stream, number, watch, reader, writer),
         Err(error) => Talked {
             ending: Ending::NoServer,
             reason: space_reason(alloc, path, &error).ok(),
@@ -106,6 +118,7 @@ fn talk_along<N: Eprint, R: PortRead, W: PortWrite>(
     path: &str,
     stream: &UnixStream,
     number: u16,
+    watch: &Watch,
     reader: &mut R,
     writer: &mut W,
 ) -> Talked
@@ -116,6 +129,7 @@ fn talk_along<N: Eprint, R: PortRead, W: PortWrite>(
     let (reads, writes) = (Blank::new(1), Blank::new(1));
     let is_silent = AtomicBool::new(false);
     let from_server = PatientStream::new(stream, &is_silent, Typist { rt, path });
+    watch.begin(stream);
     let spoken = talk_over::<Brand, Brand, _, _, _>(
         alloc,
         from_server,
@@ -133,6 +147,11 @@ fn talk_along<N: Eprint, R: PortRead, W: PortWrite>(
         };
     }
     let Spoken { ending, .. } = spoken;
+    let ending = if watch.is_over() {
+        Ending::GONE
+    } else {
+        ending
+    };
     let reason = ending.reason(alloc).unwrap_or(None);
     Talked { ending, reason }
 }

@@ -4,7 +4,7 @@ use crate::messages::put_message;
 use ipc_history::Output;
 use ipc_words::{IpcError, MaskedControl, Phase, ThreadId};
 use l4sh_chart::{Mark, Row, Said, Scene, ToldCall};
-use l4sh_state::short_cause_of;
+use l4sh_state::short_cause_of_entry;
 use std::alloc::Global;
 
 /// What a row says, in words.
@@ -208,7 +208,7 @@ fn put_failure(ink: &mut Ink, row: &Row, number: u64, error: IpcError) {
         Phase::Send => ": send ",
         Phase::Receive => ": receive ",
     };
-    ink.put_all(&[phase, short_cause_of(error)]);
+    ink.put_all(&[phase, short_cause_of_entry(error)]);
     put_wait(ink, " after ", row.sent.max(row.received));
     ink.between(" (call ", number, ")");
 }

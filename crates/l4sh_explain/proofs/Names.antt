@@ -18,6 +18,7 @@ found_itself name.Exreg = refl
 found_itself name.Broke = refl
 found_itself name.At = refl
 found_itself name.Advance = refl
+found_itself name.Compact = refl
 found_itself name.Connect = refl
 found_itself name.Feed = refl
 found_itself name.End = refl

@@ -11,7 +11,7 @@ use Rattle.ipc_lines.proofs.ListTexts.{spaced_found}
 use Rattle.ipc_lines.proofs.Splitting.{lines_split_into_fields}
 use Rattle.l4sh_explain.specs.declared.grammars.Grammar.TheVariants.{Trace}
 use Rattle.l4sh_explain.specs.declared.grammars.LineName.{LineName}
-use Rattle.l4sh_explain.specs.declared.grammars.LineName.TheVariants.{Open, Call, Take, Exreg, Broke, At, Advance, Connect, Feed, End}
+use Rattle.l4sh_explain.specs.declared.grammars.LineName.TheVariants.{Open, Call, Take, Exreg, Broke, At, Advance, Compact, Connect, Feed, End}
 use Rattle.l4sh_explain.specs.declared.grammars.LineName.TheVariants.{Opened, Called, Moved, Began, Turned, Ended, Overflowed, Aborted, Failed}
 use Rattle.l4sh_explain.specs.declared.grammars.Field.{Field}
 use Rattle.l4sh_explain.specs.declared.grammars.Field.TheVariants as field
@@ -111,6 +111,7 @@ entry_of Open texts is h = absurd (cc is)
 entry_of Call texts is h = absurd (cc is)
 entry_of Take texts is h = absurd (cc is)
 entry_of Advance texts is h = absurd (cc is)
+entry_of Compact texts is h = absurd (cc is)
 entry_of Connect texts is h = absurd (cc is)
 entry_of Feed texts is h = absurd (cc is)
 entry_of End texts is h = absurd (cc is)

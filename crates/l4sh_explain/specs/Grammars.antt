@@ -5,7 +5,7 @@ use Rattle.std.specs.Str.{bytes_eq}
 use Rattle.l4sh_explain.specs.declared.grammars.Grammar.{Grammar}
 use Rattle.l4sh_explain.specs.declared.grammars.Grammar.TheVariants.{Script, Wire, Trace}
 use Rattle.l4sh_explain.specs.declared.grammars.LineName.{LineName}
-use Rattle.l4sh_explain.specs.declared.grammars.LineName.TheVariants.{Open, Call, Take, Exreg, Broke, At, Advance, Connect, Feed, End}
+use Rattle.l4sh_explain.specs.declared.grammars.LineName.TheVariants.{Open, Call, Take, Exreg, Broke, At, Advance, Compact, Connect, Feed, End}
 use Rattle.l4sh_explain.specs.declared.grammars.LineName.TheVariants.{Opened, Called, Moved, Began, Turned, Ended, Overflowed, Aborted, Failed}
 use Rattle.l4sh_explain.specs.declared.grammars.Field.{Field}
 use Rattle.l4sh_explain.specs.declared.grammars.Field.TheVariants as field
@@ -20,6 +20,7 @@ name_text Exreg = codes "exreg"
 name_text Broke = codes "broke"
 name_text At = codes "at"
 name_text Advance = codes "advance"
+name_text Compact = codes "compact"
 name_text Connect = codes "connect"
 name_text Feed = codes "feed"
 name_text End = codes "end"
@@ -36,8 +37,8 @@ name_text Failed = codes "failed"
 -- the names of all grammars
 abbrev pub all_names : List LineName
 all_names =
-    Open ∷ Call ∷ Take ∷ Exreg ∷ Broke ∷ At ∷ Advance ∷ Connect ∷ Feed ∷ End ∷ Opened ∷ Called ∷ Moved
-    ∷ Began ∷ Turned ∷ Ended ∷ Overflowed ∷ Aborted ∷ Failed ∷ []
+    Open ∷ Call ∷ Take ∷ Exreg ∷ Broke ∷ At ∷ Advance ∷ Compact ∷ Connect ∷ Feed ∷ End ∷ Opened
+    ∷ Called ∷ Moved ∷ Began ∷ Turned ∷ Ended ∷ Overflowed ∷ Aborted ∷ Failed ∷ []
 
 -- the name that a text is, of any grammar
 abbrev pub any_name : List ℕ → Option LineName
@@ -52,6 +53,7 @@ is_command Exreg = true
 is_command Broke = true
 is_command At = true
 is_command Advance = true
+is_command Compact = true
 is_command _ = false
 
 -- those of a wire script
@@ -105,6 +107,7 @@ fields_of grammar Exreg = field.Thread ∷ field.Target ∷ control_field gramma
 fields_of grammar Broke = field.Thread ∷ []
 fields_of grammar At = field.Moment ∷ []
 fields_of grammar Advance = []
+fields_of grammar Compact = []
 fields_of grammar Connect = field.Space ∷ []
 fields_of grammar Feed = field.Connection ∷ field.Bytes ∷ []
 fields_of grammar End = field.Connection ∷ []

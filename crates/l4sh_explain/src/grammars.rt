@@ -24,6 +24,7 @@ pub enum LineName {
     Broke,
     At,
     Advance,
+    Compact,
     Connect,
     Feed,
     End,
@@ -138,7 +139,7 @@ const NUMBERED_CALL: [Field; 10] = [
 ];
 
 // The names of all grammars.
-const NAMES: [LineName; 19] = [
+const NAMES: [LineName; 20] = [
     LineName::Open,
     LineName::Call,
     LineName::Take,
@@ -146,6 +147,7 @@ const NAMES: [LineName; 19] = [
     LineName::Broke,
     LineName::At,
     LineName::Advance,
+    LineName::Compact,
     LineName::Connect,
     LineName::Feed,
     LineName::End,
@@ -172,6 +174,7 @@ fn text_of(name: LineName) -> &'static [u8]
         LineName::Broke => b"broke",
         LineName::At => b"at",
         LineName::Advance => b"advance",
+        LineName::Compact => b"compact",
         LineName::Connect => b"connect",
         LineName::Feed => b"feed",
         LineName::End => b"end",
@@ -216,6 +219,7 @@ impl Grammar {
                     | LineName::Broke
                     | LineName::At
                     | LineName::Advance
+                    | LineName::Compact
             ),
             Grammar::Wire => matches!(
                 name,
@@ -268,7 +272,7 @@ impl Grammar {
             }
             LineName::Exreg => &[Field::Thread, Field::Target, Field::Control],
             LineName::At => &[Field::Moment],
-            LineName::Advance => &[],
+            LineName::Advance | LineName::Compact => &[],
             LineName::Connect => &[Field::Space],
             LineName::Feed => &[Field::Connection, Field::Bytes],
             LineName::End => &[Field::Connection],

@@ -265,7 +265,7 @@ impl fmt::Display for Shown<'_> {
 
 fn names_of(grammar: Grammar) -> &'static str {
     match grammar {
-        Grammar::Script => "open, call, exreg, broke, at, advance or take",
+        Grammar::Script => "open, call, exreg, broke, at, advance, take or compact",
         Grammar::Wire => "connect, feed, end, at or advance",
         Grammar::Trace => {
             "the name of an entry: at, opened, called, exreg, broke, moved, began, turned, ended, overflowed, aborted or failed"

@@ -9,7 +9,7 @@ use ipc_words::Period;
 /// A unit of time.
 #[derive(Clone, Copy, PartialEq, Eq, Debug)]
 pub enum TimeUnit {
-    /// `us`
+    /// `us`, or `µs` with either of its two signs
     Micro,
     /// `ms`
     Milli,
@@ -87,7 +87,9 @@ pub fn read_time(word: &[u8]) -> Result<u64, TimeFault> {
     match word {
         [count @ .., b'm', b'i', b'n'] => scaled(count, TimeUnit::Minute),
         [count @ .., b'm', b's'] => scaled(count, TimeUnit::Milli),
-        [count @ .., b'u', b's'] => scaled(count, TimeUnit::Micro),
+        [count @ .., b'u', b's']
+        | [count @ .., 0xc2, 0xb5, b's']
+        | [count @ .., 0xce, 0xbc, b's'] => { scaled(count, TimeUnit::Micro) }
         [count @ .., b's'] => scaled(count, TimeUnit::Second),
         b"0" => Ok(0),
         _ if read_decimal(word).is_some() => Err(TimeFault::NoUnit),

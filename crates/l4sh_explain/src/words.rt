@@ -117,7 +117,7 @@ fn tell_error(text: &mut String, error: IpcError) -> Result<(), AllocError> {
         ),
         Some(ErrorKind::Aborted) => write!(
             text,
-            "as an ErrorCode: another thread aborted the {phase} after {offset} {noun}\n"
+            "as an ErrorCode: the {phase} was aborted after {offset} {noun}: by another thread, or its partner ended\n"
         ),
         None => text.push_str("as an ErrorCode: none\n"),
     }

@@ -2,7 +2,7 @@ use crate::notes::{Note, Notes};
 use ipc_history::{Entry, Input, Output};
 use ipc_lines::{HexText, IdText};
 use ipc_words::{IpcError, MaskedControl, Phase, ThreadId, ThreadIdKind};
-use l4sh_state::cause_of;
+use l4sh_state::cause_of_entry;
 use std::alloc::AllocError;
 
 /// The least label that is told in HEX.
@@ -200,7 +200,7 @@ fn tell_failure(text: &mut String, call: &Note, error: IpcError) -> Result<(), A
             tell_specifier(text, call.from)?;
         }
     }
-    write!(text, ": {}", cause_of(error))?;
+    write!(text, ": {}", cause_of_entry(error))?;
     let number = call.number;
     write!(text, "  (call {number})")
 }

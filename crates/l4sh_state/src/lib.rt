@@ -16,7 +16,7 @@ mod threads;
 mod waits;
 
 pub use building::slots_of;
-pub use causes::{cause_of, short_cause_of};
+pub use causes::{cause_of, cause_of_entry, short_cause_of_entry};
 pub use courses::{Course, PLACES, course_from};
 pub use doing::{Doing, doing_of};
 pub use drops::{Dropped, Drops, drops_of};

@@ -26,6 +26,9 @@ pub enum Ending {
 }
 
 impl Ending {
+    /// The connection ended while nothing was asked.
+    pub const GONE: Ending = Ending::Ended(ClientError::Frame(FrameFault::Unfinished));
+
     /// The ending by an error of the client: for want of memory, or else by the server.
     pub fn of(error: ClientError) -> Ending
         ensures { result ≡ ending_of error }

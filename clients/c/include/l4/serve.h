@@ -12,6 +12,10 @@ L4_BEGIN_C_
  * Calls of other threads, l4_disconnect and L4_Accept may be made in it. */
 typedef L4_Bool_t (*l4_answer_t)(L4_ThreadId_t from, L4_MsgTag_t tag, void *data);
 
+/* The label of the empty message that an asker gets in place of an answer that cannot be sent, as one with a string that is
+ * not there: 2^48 - 1. */
+#define L4_FUNCTION_FAILED ((L4_Word_t) 0xffffffffffff)
+
 /* Is told what failed, l4_error() says why: the answer to this thread did not go over, or where it is L4_nilthread a request
  * did not come whole, as one with a string that the buffers did not take, or a name was not registered again. */
 typedef void (*l4_trouble_t)(L4_ThreadId_t to, void *data);

@@ -8,7 +8,7 @@ from typing import Optional, Union
 from . import arguments, calls, frames
 from .connecting import Place
 from .message import Message, Received
-from .names import Book, Kept, is_name
+from .names import Book, Kept, is_name, name_bytes
 from .protocol import NOTHING_TOLD
 from .steps import Ipc, Steps, until_there
 from .words import NILTHREAD, ThreadId
@@ -108,6 +108,7 @@ class Caller:
         if isinstance(to, str):
             if not is_name(to):
                 raise arguments.wanted("to", "a thread id, as ThreadId.of(2, 1), is", to)
+            name_bytes(to, "to")
             return self._book.call(to, step, is_call, wait_for)
         return until_there(step._replace(to=to, from_specifier=to if is_call else NILTHREAD), wait_for)
 

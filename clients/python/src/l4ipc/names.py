@@ -40,6 +40,8 @@ LEAST_TRY = 0.1
 REGISTER, LOOK_UP, LIST = 1, 2, 3
 
 _IS_AN_ID = re.compile(r"[0-9]+(\.[0-9]+)?")
+_IS_A_NAME = re.compile(f"[!-~]{{1,{MAX_NAME_BYTES}}}")
+_NAME_RULE = f"a name has 1 to {MAX_NAME_BYTES} bytes of printable ASCII without the space"
 
 
 class NameFault(L4Error):
@@ -61,7 +63,7 @@ class NameFault(L4Error):
         by = f" by {self.holder}" if self.holder else ""
         of = f": {arguments.shown(self.name)}" if self.name is not None else ""
         rules = {
-            self.BAD_NAME: f"; a name has 1 to {MAX_NAME_BYTES} bytes of printable ASCII without the space",
+            self.BAD_NAME: f"; {_NAME_RULE}",
             self.FULL: f"; it has {MAX_NAMES} names of live threads, and no more",
         }
         rule = rules.get(self.number, "")
@@ -187,7 +189,7 @@ class Book:
         """`Names.register`, of a wait until this moment."""
         if originator is not None:
             arguments.thread_or_nobody("originator", originator)
-        answer = yield from self.ask(REGISTER, _bytes(name), originator, end)
+        answer = yield from self.ask(REGISTER, name_bytes(name), originator, end)
         registered = ThreadId(answer.words[0])
         if registered == self._thread.id:
             self._thread.kept.registered(name)
@@ -195,7 +197,7 @@ class Book:
 
     def lookup(self, name: str, end: Optional[float] = None) -> Steps[Optional[ThreadId]]:
         """`Names.lookup`, of a wait until this moment."""
-        answer = yield from self.ask(LOOK_UP, _bytes(name), end=end)
+        answer = yield from self.ask(LOOK_UP, name_bytes(name), end=end)
         found = ThreadId(answer.words[0])
         return None if found == NILTHREAD else found
 
@@ -404,10 +406,10 @@ def _waited(missing: str, name: str, seconds: Optional[float]) -> NameTimeout:
     return NameTimeout(f"{missing}; waited for {name}" + ("" if seconds is None else f" for {in_words(seconds)}"))
 
 
-def _bytes(name: str) -> bytes:
+def name_bytes(name: str, argument: str = "name") -> bytes:
+    """The bytes of a name, of this argument."""
     if not isinstance(name, str):
-        raise arguments.wanted("name", "a str is", name)
-    data = name.encode("utf-8")
-    if len(data) > MAX_NAME_BYTES:
-        raise ValueError(f"name: {arguments.shown(name)} has {len(data)} bytes, which is more than {MAX_NAME_BYTES}")
-    return data
+        raise arguments.wanted(argument, "a str is", name)
+    if not _IS_A_NAME.fullmatch(name):
+        raise ValueError(f"{argument}: {arguments.shown(name)} is no name; {_NAME_RULE}")
+    return name.encode("ascii")

@@ -165,5 +165,5 @@ ERRORS: Dict[int, str] = {
     2: "non-existing partner",
     3: "cancelled by another thread",
     4: "message overflow",
-    7: "aborted by another thread",
+    7: "aborted by another thread, or its partner ended",
 }

@@ -1,5 +1,18 @@
 //! What is typed at a terminal to a live server.
 use ipc_base::{PortFault, PortRead};
+use l4sh_files::is_typed_at_terminal;
+
+/// What stands before each line that is typed at a terminal.
+const PROMPT: &str = "l4sh> ";
+
+/// The prompt: none where standard input or standard output is no terminal.
+pub(crate) fn prompt() -> &'static str {
+    if is_typed_at_terminal() && libc::isatty(libc::STDOUT_FILENO) == 1 {
+        PROMPT
+    } else {
+        ""
+    }
+}
 
 /// A port before each read of which the prompt stands on standard output: what a terminal hands on
 /// at once is a line.

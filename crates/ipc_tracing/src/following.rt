@@ -1,12 +1,12 @@
 //! Following the trace: who asks gets the part that begins now, and then the line of each further
 //! entry, until he leaves.
-use crate::control::{NO_MEMORY, say};
 use crate::followers::{Given, Unfollowed};
-use crate::host::Host;
 use crate::part_answer::{SLOW, write_part};
 use crate::parts::PlacedPart;
+use crate::saying::{NO_MEMORY, say};
 use crate::server::Server;
-use ipc_host::SocketPort;
+use crate::shared_trace::SharedTrace;
+use ipc_host::{Guests, SocketPort};
 use ipc_lock::Naming;
 use std::io;
 use std::io::{ErrorKind, Read, Write};
@@ -34,18 +34,19 @@ const CUT: &str = "cut off: too slow\n";
 /// # Errors
 ///
 /// The system's; he has left, or was too slow.
-pub(crate) fn follow<C: Naming, T: Ledger, R: Wait + Clock>(
+pub fn follow<C: Naming, T: Ledger, R: Wait + Clock>(
     server: &Server<'_, C, T, SocketPort, R>,
-    host: &Host,
+    guests: &Guests,
+    shared: &SharedTrace,
     stream: &UnixStream,
 ) -> io::Result<()> {
-    match host.followers.enter(server.rt) {
+    match shared.followers.enter(server.rt) {
         Ok(ticket) => {
-            let followed = follow_as(server, host, stream, ticket);
-            host.followers.leave(server.rt, ticket);
+            let followed = follow_as(server, guests, shared, stream, ticket);
+            shared.followers.leave(server.rt, ticket);
             followed
         }
-        Err(Unfollowed::NoTrace) => say_untraced(server, host, stream),
+        Err(Unfollowed::NoTrace) => say_untraced(server, shared, stream),
         Err(Unfollowed::Full) => say(stream, FULL),
         Err(Unfollowed::NoMemory) => say(stream, NO_MEMORY),
     }
@@ -54,10 +55,10 @@ pub(crate) fn follow<C: Naming, T: Ledger, R: Wait + Clock>(
 /// Says why no entry comes: there is no trace, or it has stopped.
 fn say_untraced<C: Naming, T: Ledger, R: Wait + Clock>(
     server: &Server<'_, C, T, SocketPort, R>,
-    host: &Host,
+    shared: &SharedTrace,
     stream: &UnixStream,
 ) -> io::Result<()> {
-    match host.trace_stop.line(server.rt, server.alloc) {
+    match shared.stop.line(server.rt, server.alloc) {
         Ok(Some(line)) => say(stream, line.as_str()),
         Ok(None) => say(stream, UNTRACED),
         Err(_) => say(stream, NO_MEMORY),
@@ -67,15 +68,16 @@ fn say_untraced<C: Naming, T: Ledger, R: Wait + Clock>(
 /// The same by a ticket.
 fn follow_as<C: Naming, T: Ledger, R: Wait + Clock>(
     server: &Server<'_, C, T, SocketPort, R>,
-    host: &Host,
+    guests: &Guests,
+    shared: &SharedTrace,
     stream: &UnixStream,
     ticket: u64,
 ) -> io::Result<()> {
-    match host.parts.ask_placed(server) {
+    match shared.parts.ask_placed(server) {
         Ok(Some(placed)) => {
-            host.followers.start(server.rt, ticket, placed.place);
+            shared.followers.start(server.rt, ticket, placed.place);
             begin(server, stream, placed)?;
-            send_lines(server, host, stream, ticket)
+            send_lines(server, guests, shared, stream, ticket)
         }
         Ok(None) => say(stream, SLOW),
         Err(_) => say(stream, NO_MEMORY),
@@ -97,22 +99,23 @@ fn begin<C: Naming, T: Ledger, R: Wait + Clock>(
 /// Sends lines as they come.
 fn send_lines<C: Naming, T: Ledger, R: Wait + Clock>(
     server: &Server<'_, C, T, SocketPort, R>,
-    host: &Host,
+    guests: &Guests,
+    shared: &SharedTrace,
     stream: &UnixStream,
     ticket: u64,
 ) -> io::Result<()> {
     for _ in server.rt.forever() {
         // what comes before this stands among the lines that are given then
-        let is_over = has_all(server, host);
-        match host.followers.wait(server.rt, ticket) {
+        let is_over = has_all(server, guests, shared);
+        match shared.followers.wait(server.rt, ticket) {
             Given::Lines(lines, skipped) => {
                 let his = &lines[skipped.min(lines.len())..];
-                send(server, host, stream, ticket, his)?;
+                send(server, guests, shared, stream, ticket, his)?;
             }
             Given::Nothing if is_over || has_left(stream) => return Ok(()),
             Given::Nothing => {}
             Given::Cut => return say(stream, CUT),
-            Given::Over => return say_untraced(server, host, stream),
+            Given::Over => return say_untraced(server, shared, stream),
         }
     }
     Ok(())
@@ -121,19 +124,19 @@ fn send_lines<C: Naming, T: Ledger, R: Wait + Clock>(
 /// Whether the service has ended, and the trace has all entries.
 fn has_all<C: Naming, T: Ledger, R: Wait + Clock>(
     server: &Server<'_, C, T, SocketPort, R>,
-    host: &Host,
+    guests: &Guests,
+    shared: &SharedTrace,
 ) -> bool {
     let entries = server.shared.entries(server.rt) as u64;
-    host.guests
-        .wait_finished(server.rt, Duration::from_millis(0))
-        && host.behind(entries) == Some(0)
+    guests.wait_finished(server.rt, Duration::from_millis(0)) && shared.behind(entries) == Some(0)
 }
 
 /// Sends lines. Where he does not read, that is waited for until he is cut off, or the service
 /// ends.
 fn send<C: Naming, T: Ledger, R: Wait + Clock>(
     server: &Server<'_, C, T, SocketPort, R>,
-    host: &Host,
+    guests: &Guests,
+    shared: &SharedTrace,
     stream: &UnixStream,
     ticket: u64,
     lines: &[u8],
@@ -149,8 +152,8 @@ fn send<C: Naming, T: Ledger, R: Wait + Clock>(
             Ok(count) => sent = sent.saturating_add(count),
             Err(error) => {
                 if !has_to_wait(&error)
-                    || host.followers.is_cut(server.rt, ticket)
-                    || host.guests.is_stopping(server.rt)
+                    || shared.followers.is_cut(server.rt, ticket)
+                    || guests.is_stopping(server.rt)
                 {
                     return Err(error);
                 }

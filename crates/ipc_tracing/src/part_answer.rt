@@ -1,9 +1,9 @@
 //! The part of a trace that begins now, for one who asks.
 ghost use Rattle.std.specs.Prelude.{◌≡◌, ◌<◌};
 
-use crate::control::{NO_MEMORY, say};
-use crate::host::Host;
+use crate::saying::{NO_MEMORY, say};
 use crate::server::Server;
+use crate::shared_trace::SharedTrace;
 use crate::tracing::put_held;
 use ipc_base::{Failures, WritePort};
 use ipc_host::SocketPort;
@@ -34,12 +34,12 @@ pub(crate) const SLOW: &str = "the trace is slow: ask again\n";
 /// # Errors
 ///
 /// The system's; he was too slow.
-pub(crate) fn answer_with_part<C: Naming, T: Ledger, R: Wait + Clock>(
+pub fn answer_with_part<C: Naming, T: Ledger, R: Wait + Clock>(
     server: &Server<'_, C, T, SocketPort, R>,
-    host: &Host,
+    shared: &SharedTrace,
     stream: &UnixStream,
 ) -> io::Result<()> {
-    match host.parts.ask(server) {
+    match shared.parts.ask(server) {
         Ok(Some(part)) => write_part(server, stream, &part),
         Ok(None) => say(stream, SLOW),
         Err(_) => say(stream, NO_MEMORY),

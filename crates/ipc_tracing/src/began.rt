@@ -15,14 +15,14 @@ use std::sync::ledger::Ledger;
 const NO_TIME: &str = "no time is known\n";
 
 /// When moment 0 was, by the clock of now. None where the system tells no time of day.
-pub(crate) fn start_of<C: Naming, T: Ledger, R: Wait + Clock>(
+pub fn start_of<C: Naming, T: Ledger, R: Wait + Clock>(
     server: &Server<'_, C, T, SocketPort, R>,
 ) -> Option<Start> {
     Start::of_clock(server.rt, server.now())
 }
 
 /// The same as a line, for one who asks.
-pub(crate) fn began_text<C: Naming, T: Ledger, R: Wait + Clock>(
+pub fn began_text<C: Naming, T: Ledger, R: Wait + Clock>(
     server: &Server<'_, C, T, SocketPort, R>,
 ) -> Result<String, AllocError> {
     match start_of(server) {

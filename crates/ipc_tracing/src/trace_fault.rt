@@ -43,7 +43,7 @@ impl TraceFault {
     }
 
     /// The number after TR.
-    pub(crate) fn number(&self) -> u8 {
+    pub fn number(&self) -> u8 {
         self.fault.number()
     }
 
@@ -60,14 +60,14 @@ impl TraceFault {
 
 /// The same as it is told, with the path of the file: `l4d: trace TR1`, and in the next line why.
 #[derive(Clone, Copy)]
-pub(crate) struct Told<'a> {
-    pub(crate) fault: TraceFault,
-    pub(crate) path: &'a str,
+pub struct ToldFault<'a> {
+    pub fault: TraceFault,
+    pub path: &'a str,
 }
 
-impl fmt::Display for Told<'_> {
+impl fmt::Display for ToldFault<'_> {
     fn fmt<W: fmt::Write>(&self, f: &mut fmt::Formatter<W>) -> fmt::Result {
-        let Told { fault, path } = self;
+        let ToldFault { fault, path } = self;
         let number = fault.number();
         write!(f, "l4d: trace TR{number}")?;
         match &fault.reason {
@@ -108,23 +108,19 @@ impl TraceStop {
     }
 
     /// It has stopped.
-    pub(crate) fn note<R: Wait>(&self, rt: &R, fault: TraceFault) {
+    pub fn note<R: Wait>(&self, rt: &R, fault: TraceFault) {
         let mut noted = self.fault.lock(rt);
         *noted = Some(fault);
         drop(noted);
     }
 
     /// Why it has stopped, if it has.
-    pub(crate) fn fault<R: Wait>(&self, rt: &R) -> Option<TraceFault> {
+    pub fn fault<R: Wait>(&self, rt: &R) -> Option<TraceFault> {
         *self.fault.lock(rt)
     }
 
     /// The same as a line.
-    pub(crate) fn line<R: Wait>(
-        &self,
-        rt: &R,
-        alloc: Global,
-    ) -> Result<Option<String>, AllocError> {
+    pub fn line<R: Wait>(&self, rt: &R, alloc: Global) -> Result<Option<String>, AllocError> {
         match self.fault(rt) {
             Some(fault) => Ok(Some(format!(in alloc; "{}\n", Stopped(fault))?)),
             None => Ok(None),

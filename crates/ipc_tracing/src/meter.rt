@@ -54,7 +54,7 @@ impl Meter {
     }
 
     /// The system's reason for the last failure of a write.
-    pub(crate) fn reason(&self) -> Option<io::Error> {
+    pub fn reason(&self) -> Option<io::Error> {
         match i32::try_from(self.failure.load(Ordering::SeqCst)) {
             Ok(number) if number != 0 => Some(io::Error::from_raw_os_error(number)),
             _ => None,

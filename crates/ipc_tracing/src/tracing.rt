@@ -3,10 +3,10 @@ ghost use Rattle.std.specs.Prelude.{◌≡◌, IfOk, OnOk};
 ghost use Rattle.std.specs.Io.KnownBytes.{Appends};
 ghost use Rattle.ipc_lock.specs.Above.{MarksSome};
 ghost use Rattle.ipc_trace.specs.Traces.{trace_text};
-ghost use Rattle.ipc_server.specs.Working.{PutsGroup};
+ghost use Rattle.ipc_tracing.specs.Working.{PutsGroup};
 
-use crate::host::Host;
 use crate::server::Server;
+use crate::shared_trace::SharedTrace;
 use crate::trace_fault::TraceFault;
 use ipc_base::PortWrite;
 use ipc_core::MAX_ENTRIES;
@@ -118,14 +118,14 @@ impl<P: PortWrite> Trace<P> {
     pub fn follow<C: Naming, T: Ledger, R: Wait + Clock + Eprint>(
         &mut self,
         server: &Server<'_, C, T, SocketPort, R>,
-        host: &Host,
+        shared: &SharedTrace,
     ) -> Result<Option<Next>, TraceFault> {
         for _ in server.rt.forever() {
-            if self.put_group(server, host)? == 0 {
+            if self.put_group(server, shared)? == 0 {
                 return Ok(None);
             }
-            host.note_traced(self.count);
-            if let Some(part) = self.part_where_due(server, host)? {
+            shared.note_traced(self.count);
+            if let Some(part) = self.part_where_due(server, shared)? {
                 let count = self.count;
                 return Ok(Some(Next { part, count }));
             }
@@ -138,16 +138,16 @@ impl<P: PortWrite> Trace<P> {
     fn part_where_due<C: Naming, T: Ledger, R: Wait + Clock + Eprint>(
         &mut self,
         server: &Server<'_, C, T, SocketPort, R>,
-        host: &Host,
+        shared: &SharedTrace,
     ) -> Result<Option<HeldPart>, PutFault> {
-        if host.parts.is_wanted(server.rt) {
-            let part = self.part_here(server, host)?;
-            host.parts.hand(server.rt, part, self.count);
+        if shared.parts.is_wanted(server.rt) {
+            let part = self.part_here(server, shared)?;
+            shared.parts.hand(server.rt, part, self.count);
         }
-        if !host.meter.is_full() {
+        if !shared.meter.is_full() {
             return Ok(None);
         }
-        self.part_here(server, host)
+        self.part_here(server, shared)
     }
 
     // Puts the entries that are left, hands them on, and answers the part that begins behind them;
@@ -155,16 +155,16 @@ impl<P: PortWrite> Trace<P> {
     fn part_here<C: Naming, T: Ledger, R: Wait + Clock + Eprint>(
         &mut self,
         server: &Server<'_, C, T, SocketPort, R>,
-        host: &Host,
+        shared: &SharedTrace,
     ) -> Result<Option<HeldPart>, PutFault> {
         let Ok(behind) = server.shared.part_behind(server.rt, self.count) else {
             return Err(PutFault::NoMemory);
         };
         let (rest, part) = behind.into_parts();
-        host.followers.hand(server.rt, self.count, &rest);
+        shared.followers.hand(server.rt, self.count, &rest);
         self.put_lines(&rest)?;
         drop(rest);
-        host.note_traced(self.count);
+        shared.note_traced(self.count);
         self.writer.flush()?;
         Ok(part)
     }
@@ -174,13 +174,13 @@ impl<P: PortWrite> Trace<P> {
     fn put_group<C: Naming, T: Ledger, R: Wait + Clock + Eprint>(
         &mut self,
         server: &Server<'_, C, T, SocketPort, R>,
-        host: &Host,
+        shared: &SharedTrace,
     ) -> Result<usize, PutFault>
         ensures { IfOk result (λ _. PutsGroup C SocketPort self.old.count
             self.old.writer.written self.new.writer.written) }
     {
         match server.shared.wait_entries(server.rt, self.count) {
-            Ok(group) => self.put_entries(server, host, &group),
+            Ok(group) => self.put_entries(server, shared, &group),
             Err(_) => Err(PutFault::NoMemory),
         }
     }
@@ -190,14 +190,14 @@ impl<P: PortWrite> Trace<P> {
     fn put_entries<C: Naming, T: Ledger, R: Wait + Clock + Eprint>(
         &mut self,
         server: &Server<'_, C, T, SocketPort, R>,
-        host: &Host,
+        shared: &SharedTrace,
         group: &[Entry],
     ) -> Result<usize, PutFault>
         ensures puts { IfOk result (λ _. Appends self.old.writer.written self.new.writer.written
             (trace_text group.now)) }
         ensures marks { IfOk result (λ _. MarksSome C SocketPort self.new.count) }
     {
-        host.followers.hand(server.rt, self.count, group);
+        shared.followers.hand(server.rt, self.count, group);
         self.put_lines(group)?;
         let left = server.shared.mark_traced(server.rt, self.count);
         self.tell_when_far_behind(server.rt, left);

@@ -3,9 +3,9 @@
 ghost use Rattle.std.specs.Prelude.{◌≡◌, ◌<◌};
 
 use crate::began::{drop_began, put_began, rename_began};
-use crate::host::Host;
 use crate::meter::{Meter, MeteredFile};
 use crate::server::Server;
+use crate::shared_trace::SharedTrace;
 use crate::trace_disk::TraceDisk;
 use crate::trace_fault::{Failed, TraceFault};
 use crate::tracing::{Next, Trace};
@@ -91,7 +91,7 @@ impl<'a> TraceFiles<'a> {
     pub fn follow<C, T, R, P>(
         self,
         server: &Server<'_, C, T, SocketPort, R>,
-        host: &Host,
+        shared: &SharedTrace,
         first: Trace<P>,
     ) -> Result<(), TraceFault>
     where
@@ -100,10 +100,10 @@ impl<'a> TraceFiles<'a> {
         R: Wait + Clock + Eprint + TraceDisk,
         P: PortWrite + Drop,
     {
-        let mut next = self.follow_file(server, host, first)?;
+        let mut next = self.follow_file(server, shared, first)?;
         for _ in server.rt.forever() {
             match next.take() {
-                Some(part) => next = self.follow_next(server, host, part)?,
+                Some(part) => next = self.follow_next(server, shared, part)?,
                 None => return Ok(()),
             }
         }
@@ -115,7 +115,7 @@ impl<'a> TraceFiles<'a> {
     fn follow_next<C, T, R>(
         self,
         server: &Server<'_, C, T, SocketPort, R>,
-        host: &Host,
+        shared: &SharedTrace,
         next: Next,
     ) -> Result<Option<Next>, TraceFault>
     where
@@ -123,13 +123,13 @@ impl<'a> TraceFiles<'a> {
         T: Ledger,
         R: Wait + Clock + Eprint + TraceDisk,
     {
-        self.follow_part::<C, T, Brand, R>(server, host, next, Blank::new(1))
+        self.follow_part::<C, T, Brand, R>(server, shared, next, Blank::new(1))
     }
 
     fn follow_part<C, T, L, R>(
         self,
         server: &Server<'_, C, T, SocketPort, R>,
-        host: &Host,
+        shared: &SharedTrace,
         next: Next,
         writes: Blank,
     ) -> Result<Option<Next>, TraceFault>
@@ -145,7 +145,7 @@ impl<'a> TraceFiles<'a> {
         let mut trace = self.opened(server.rt, server.alloc, failures, next.count)?;
         trace.begin_part(server.alloc, &next.part)?;
         drop(next);
-        self.follow_file(server, host, trace)
+        self.follow_file(server, shared, trace)
     }
 
     /// Writes FILE to its end, and answers what begins the one behind it, for which it has made
@@ -153,7 +153,7 @@ impl<'a> TraceFiles<'a> {
     fn follow_file<C, T, R, P>(
         self,
         server: &Server<'_, C, T, SocketPort, R>,
-        host: &Host,
+        shared: &SharedTrace,
         trace: Trace<P>,
     ) -> Result<Option<Next>, TraceFault>
     where
@@ -163,7 +163,7 @@ impl<'a> TraceFiles<'a> {
         P: PortWrite + Drop,
     {
         let mut trace = trace;
-        let next = trace.follow(server, host)?;
+        let next = trace.follow(server, shared)?;
         if next.is_some() {
             self.move_on(server.rt, server.alloc)?;
         }

@@ -1,4 +1,4 @@
-ghost use Rattle.ipc_server.specs.Working.{SubmitsSome, TicksSome};
+ghost use Rattle.ipc_tracing.specs.Working.{SubmitsSome, TicksSome};
 
 use crate::shared_blocks::SharedBlocks;
 use ipc_connection::PenPort;
@@ -15,10 +15,10 @@ use std::sync::{Mutex, Wait};
 /// strings.
 #[derive(Drop)]
 pub struct Server<'a, C: Naming, T: Ledger, P: PenPort + Drop, R> {
-    pub(crate) rt: &'a R,
-    pub(crate) alloc: Global,
-    pub(crate) shared: &'a SharedKernel<C, T, P>,
-    pub(crate) clock: ServerClock,
+    pub rt: &'a R,
+    pub alloc: Global,
+    pub shared: &'a SharedKernel<C, T, P>,
+    pub clock: ServerClock,
     blocks: Mutex<FreeBlocks>,
 }
 
@@ -40,17 +40,17 @@ impl<'a, C: Naming, T: Ledger, P: PenPort + Drop, R: Wait + Clock> Server<'a, C,
     }
 
     /// The memory of long strings, for one connection.
-    pub(crate) fn blocks(&self) -> SharedBlocks<'_, R> {
+    pub fn blocks(&self) -> SharedBlocks<'_, R> {
         SharedBlocks::new(self.rt, &self.blocks)
     }
 
     /// The moment, in microseconds.
-    pub(crate) fn now(&self) -> u64 {
+    pub fn now(&self) -> u64 {
         self.clock.now(self.rt)
     }
 
     /// Makes one step at this moment, by no thread's seat.
-    pub(crate) fn submit(&self, command: Command) -> Answer
+    pub fn submit(&self, command: Command) -> Answer
         ensures { SubmitsSome C P command result }
     {
         let now = self.now();
@@ -60,7 +60,7 @@ impl<'a, C: Naming, T: Ledger, P: PenPort + Drop, R: Wait + Clock> Server<'a, C,
     }
 
     /// The kernel is told the moment.
-    pub(crate) fn tick(&self)
+    pub fn tick(&self)
         ensures { TicksSome C P }
     {
         let now = self.now();
@@ -68,7 +68,7 @@ impl<'a, C: Naming, T: Ledger, P: PenPort + Drop, R: Wait + Clock> Server<'a, C,
     }
 
     /// No entry is read any more by a trace: memory may let go of each.
-    pub(crate) fn keep_nothing(&self) {
+    pub fn keep_nothing(&self) {
         self.shared.mark(self.rt, usize::MAX);
     }
 }

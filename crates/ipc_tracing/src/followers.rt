@@ -298,7 +298,7 @@ impl Followers {
     }
 
     /// No trace is written, or it has stopped.
-    pub(crate) fn close<R: Wait>(&self, rt: &R) {
+    pub fn close<R: Wait>(&self, rt: &R) {
         let mut table = self.table.lock(rt);
         table.is_over = true;
         drop(table);

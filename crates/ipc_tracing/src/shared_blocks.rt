@@ -6,7 +6,7 @@ use std::sync::{Mutex, Wait};
 /// The blocks of a server, for one of its connections. Their lock is taken for long strings only,
 /// and what makes way is dropped behind it.
 #[derive(Drop)]
-pub(crate) struct SharedBlocks<'a, R> {
+pub struct SharedBlocks<'a, R> {
     rt: &'a R,
     blocks: &'a Mutex<FreeBlocks>,
 }

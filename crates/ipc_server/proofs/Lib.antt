@@ -1,7 +1,6 @@
 pub mod AnswerLemmas
 pub mod DoingLemmas
 pub mod NotedLemmas
-pub mod TraceLemmas
 pub mod WorkLemmas
 pub mod HomeLemmas
 pub mod ServicesLemmas

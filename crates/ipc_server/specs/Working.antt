@@ -1,32 +1,9 @@
--- What the workers do that no connection has.
-use Rattle.std.specs.Prelude.{ℕ, List, Option, None}
-use Rattle.std.specs.Io.KnownBytes.{Appends}
+-- What the mover does.
 use Rattle.ipc_core.specs.declared.answers.Advance.TheVariants as advance
-use Rattle.ipc_core.specs.declared.command.Answer.{Answer}
 use Rattle.ipc_core.specs.declared.command.Answer.TheVariants.{Advanced}
-use Rattle.ipc_core.specs.declared.command.Command.{Command}
-use Rattle.ipc_core.specs.declared.command.Command.TheVariants.{Advance, At}
-use Rattle.ipc_history.specs.declared.entry.Entry.{Entry}
-use Rattle.ipc_lock.specs.Above.{ActsSome, GroupOfSome}
-use Rattle.ipc_trace.specs.Traces.{trace_text}
-
--- a step was made at a moment, by no thread's seat: this command, which was answered so
-pub record SubmitsSome (C P : Type 0) (command : Command) (answer : Answer) : Type 0 where
-  pub now : ℕ
-  pub acts : ActsSome {C = C} P now None command answer
-
--- the kernel was told the moment
-pub record TicksSome (C P : Type 0) : Type 0 where
-  pub now : ℕ
-  pub answer : Answer
-  pub acts : ActsSome {C = C} P now None (At now) answer
+use Rattle.ipc_core.specs.declared.command.Command.TheVariants.{Advance}
+use Rattle.ipc_tracing.specs.Working.{SubmitsSome}
 
 -- a part of a transfer was moved
 abbrev pub MovesSome : (C P : Type 0) → Type 0
 MovesSome C P = SubmitsSome C P Advance (Advanced advance.Moved)
-
--- the lines were put of the entries that the history has from a place on
-pub record PutsGroup (C P : Type 0) (index : ℕ) (old new : Option (List ℕ)) : Type 0 where
-  pub group : List Entry
-  pub is_of : GroupOfSome C P index group
-  pub puts : Appends old new (trace_text group)

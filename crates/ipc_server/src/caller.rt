@@ -2,13 +2,13 @@ ghost use Rattle.std.specs.Prelude.{◌≡◌, [], Some, None};
 ghost use Rattle.ipc_server.specs.Doing.{DidAll, IsNew, told_at};
 
 use crate::noted::NotedEnd;
-use crate::server::Server;
 use crate::serving::Link;
 use ipc_connection::{PenPort, Request, Told, reply};
 use ipc_frame::{Frame, WireVersion};
 use ipc_host::{Notice, class_letter};
 use ipc_lock::{Entered, Naming, PostEnd};
 use ipc_session::KernelPort;
+use ipc_tracing::Server;
 use ipc_words::ThreadId;
 use std::marker::Model;
 use std::rt::Clock;

@@ -1,17 +1,14 @@
 //! Those who ask what the server does: they connect to the path `control`, say a word, and are
 //! answered with a text.
-use crate::began::began_text;
 use crate::counters::{CounterLines, counters_now};
-use crate::following::follow;
 use crate::host::Host;
-use crate::part_answer::answer_with_part;
 use crate::paths::Door;
-use crate::server::Server;
 use ipc_host::SocketPort;
 use ipc_lock::Naming;
+use ipc_tracing::{NO_MEMORY, Server, answer_with_part, began_text, follow, say};
 use l4sh_state::{State, drops_of, tell_state};
 use std::alloc::AllocError;
-use std::io::{Read, Write};
+use std::io::Read;
 use std::os::unix::net::UnixStream;
 use std::rt::Clock;
 use std::sync::Wait;
@@ -39,9 +36,6 @@ const STACK: usize = 4_194_304;
 /// What is said to a word that asks for nothing.
 const UNKNOWN: &str =
     "unknown: one of state, counters, trace, trace follow, rotate, began, threads\n";
-
-/// What is said where there is no memory for an answer.
-pub(crate) const NO_MEMORY: &str = "no memory\n";
 
 /// What is said where the trace is to go on in a further file.
 const ROTATED: &str = "the next entries end the file\n";
@@ -142,24 +136,14 @@ fn answer_over<C: Naming, T: Ledger, R: Wait + Clock>(
     stream.set_read_timeout(Some(patience))?;
     stream.set_write_timeout(Some(patience))?;
     match hear(stream)? {
-        Asked::Trace => answer_with_part(server, host, stream),
-        Asked::Follow => follow(server, host, stream),
+        Asked::Trace => answer_with_part(server, &host.trace, stream),
+        Asked::Follow => follow(server, &host.guests, &host.trace, stream),
         asked => match answer_to(server, host, asked) {
             Ok(Some(answer)) => say(stream, answer.as_str()),
             Ok(None) => say(stream, UNKNOWN),
             Err(_) => say(stream, NO_MEMORY),
         },
     }
-}
-
-/// Says a text to one who asks.
-///
-/// # Errors
-///
-/// The system's; he was too slow.
-pub(crate) fn say(stream: &UnixStream, text: &str) -> io::Result<()> {
-    let mut writer = stream;
-    writer.write_all(text.as_bytes())
 }
 
 /// What may be asked.
@@ -243,10 +227,14 @@ fn rotated<C: Naming, T: Ledger, R: Wait>(
     server: &Server<'_, C, T, SocketPort, R>,
     host: &Host,
 ) -> Result<String, AllocError> {
-    if let Some(line) = host.trace_stop.line(server.rt, server.alloc)? {
+    if let Some(line) = host.trace.stop.line(server.rt, server.alloc)? {
         return Ok(line);
     }
-    let said = if host.end_file() { ROTATED } else { UNTRACED };
+    let said = if host.trace.end_file() {
+        ROTATED
+    } else {
+        UNTRACED
+    };
     String::from_str(server.alloc, said)
 }
 

@@ -1,9 +1,8 @@
 //! What a server does at one moment, in numbers.
 use crate::host::Host;
-use crate::server::Server;
-use crate::trace_fault::TraceFault;
 use ipc_host::{Counts, SocketPort};
 use ipc_lock::Naming;
+use ipc_tracing::{Server, TraceFault};
 use std::fmt;
 use std::sync::Wait;
 use std::sync::ledger::Ledger;
@@ -23,8 +22,8 @@ pub(crate) fn counters_now<C: Naming, T: Ledger, R: Wait>(
         entries,
         held: server.shared.held(server.rt) as u64,
         kibibytes: host.kibibytes(server.alloc),
-        behind: host.behind(entries),
-        trace_fault: host.trace_stop.fault(server.rt),
+        behind: host.trace.behind(entries),
+        trace_fault: host.trace.stop.fault(server.rt),
     }
 }
 

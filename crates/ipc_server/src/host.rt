@@ -1,14 +1,11 @@
 //! What the workers of a server share beside the kernel.
-use crate::followers::Followers;
-use crate::meter::Meter;
-use crate::parts::Parts;
 use crate::paths::{Door, Listener};
-use crate::trace_fault::TraceStop;
 use ipc_host::{ErrorLines, Guests, ProcessStatus, Readiness, have_come, may_be_blocked, resident};
+use ipc_tracing::SharedTrace;
 use std::alloc::Global;
 use std::rt::Clock;
 use std::sync::Wait;
-use std::sync::atomic::{AtomicU64, Ordering};
+use std::sync::atomic::AtomicU64;
 use std::{fmt, io};
 
 /// The connections, the paths that they come by, and what is told of them.
@@ -32,16 +29,8 @@ pub struct Host {
     /// Whether a reader may look for a little while before it sleeps: where there are several
     /// processors.
     pub(crate) is_eager: bool,
-    /// How many entries stand in the trace; None without one.
-    pub(crate) traced: Option<AtomicU64>,
-    /// Whether it has stopped, and why.
-    pub(crate) trace_stop: TraceStop,
-    /// How much stands in the trace's file, and where it ends.
-    pub(crate) meter: Meter,
-    /// Where those who ask for a part of a trace get it.
-    pub(crate) parts: Parts,
-    /// Those who follow the trace.
-    pub(crate) followers: Followers,
+    /// What the workers share of the trace.
+    pub(crate) trace: SharedTrace,
     /// Where the worker of signals reads which have come.
     pub(crate) signals: Option<ProcessStatus>,
     /// Where the worker of counters reads how much memory there is.
@@ -112,27 +101,6 @@ impl Host {
             Some(status) => resident(status, alloc).unwrap_or(0),
             None => 0,
         }
-    }
-
-    /// Notes how many entries stand in the trace.
-    pub(crate) fn note_traced(&self, count: usize) {
-        if let Some(traced) = &self.traced {
-            traced.store(count as u64, Ordering::SeqCst);
-        }
-    }
-
-    /// Has the trace go on in a further file. False without a trace.
-    pub(crate) fn end_file(&self) -> bool {
-        if self.traced.is_some() {
-            self.meter.ask();
-        }
-        self.traced.is_some()
-    }
-
-    /// How many of so many entries the trace lags behind; None without one.
-    pub(crate) fn behind(&self, entries: u64) -> Option<u64> {
-        let traced = self.traced.as_ref()?;
-        Some(entries.saturating_sub(traced.load(Ordering::SeqCst)))
     }
 
     /// Tells what failed, once a minute at most, with the number of connections that are there.

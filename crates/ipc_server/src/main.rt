@@ -5,51 +5,36 @@ ghost use Rattle.std.specs.Prelude.{◌≡◌, ◌^◌};
 ghost use Rattle.ipc_server.specs.Ending.{EndsServed};
 
 mod accepting;
-mod began;
 mod caller;
 mod control;
 mod counters;
 mod ending;
 mod exit;
-mod followers;
-mod following;
 mod host;
-mod meter;
 mod noted;
-mod part_answer;
-mod parts;
 mod paths;
 mod probe;
 mod ready;
 mod served;
-mod server;
 mod service;
 mod services;
 mod serving;
-mod shared_blocks;
 mod socket;
 mod telling;
-mod trace_disk;
-mod trace_fault;
-mod trace_files;
 mod traced;
-mod tracing;
 mod working;
 
 use ending::{Ending, ended, status_of};
 use exit::Exit;
-use followers::Followers;
 use host::{Bound, Host};
 use ipc_core::{Limits, MAX_CALLS, MAX_ENTRIES};
 use ipc_host::{
     ErrorLines, Guests, ProcessStatus, Readiness, ServerClock, SocketPort, descriptors, room,
 };
 use ipc_lock::{BlankLog, Naming, SharedKernel};
+use ipc_tracing::{Server, SharedTrace, TraceDisk};
 use l4sh_options::{ServerOptions, server_options};
-use meter::Meter;
-use parts::Parts;
 use paths::{Door, Listener, control, listen, remove, remove_door};
-use server::Server;
 use services::Services;
 use std::alloc::Global;
 use std::fs::File;
@@ -63,8 +48,6 @@ use std::sync::ledger::{Blank, Ledger};
 use std::thread::Threads;
 use std::{io, thread};
 use telling::{asks_help, tell_error, tell_help};
-use trace_disk::TraceDisk;
-use trace_fault::TraceStop;
 use traced::serve_as_asked;
 
 /// How many parts the ledgers of the seats have.
@@ -319,21 +302,18 @@ fn host_of<C: Naming, T: Ledger, R: Threads + Files<File = File>>(
         is_logged: options.log,
         lines: ErrorLines::new(server.alloc),
         is_eager: has_several_processors(server.rt),
-        traced: nothing_traced(options),
-        trace_stop: TraceStop::new(),
-        meter: Meter::new(options.trace_size),
-        parts: Parts::new(),
-        followers: Followers::new(server.alloc),
+        trace: SharedTrace::new(server.alloc, options),
         signals: ProcessStatus::open(server.rt),
         memory: ProcessStatus::open(server.rt),
     }
 }
 
-/// How many entries stand in the trace at first; None without one.
-fn nothing_traced(options: &ServerOptions<'_>) -> Option<AtomicU64> {
-    match options.trace {
-        Some(_) => Some(AtomicU64::new(0)),
-        None => None,
+/// What keeps further connections out where so many are there.
+fn bound_of(options: &ServerOptions<'_>, most: u64) -> Bound {
+    if most < u64::from(options.live) {
+        Bound::Descriptors
+    } else {
+        Bound::Live
     }
 }
 

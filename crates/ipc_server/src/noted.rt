@@ -5,11 +5,11 @@ ghost use Rattle.ipc_session.specs.Serving.{IsAnswer};
 ghost use Rattle.ipc_session.specs.Sessions.{deeds_left};
 ghost use Rattle.ipc_session.specs.declared.deed.Deed.TheVariants as deed;
 
-use crate::server::Server;
 use ipc_base::Past;
 use ipc_connection::{PenPort, Request, Told, is_posted};
 use ipc_lock::{Entered, Naming, PostEnd};
 use ipc_session::Deed;
+use ipc_tracing::Server;
 use std::rt::Clock;
 use std::sync::Wait;
 use std::sync::ledger::Ledger;

@@ -7,10 +7,10 @@ ghost use Rattle.ipc_session.specs.Keeping.{call_of};
 ghost use Rattle.ipc_session.specs.Sessions.{MayAskFor};
 
 use crate::served::{Served, Service};
-use crate::server::Server;
 use ipc_base::{Past, PortRead};
 use ipc_connection::PenPort;
 use ipc_lock::{Naming, PostEnd, Roll};
+use ipc_tracing::Server;
 use std::marker::{Model, PhantomData};
 use std::rt::Clock;
 use std::sync::Wait;

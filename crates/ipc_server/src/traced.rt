@@ -1,20 +1,15 @@
 //! Serving beside a worker that writes the trace.
 ghost use Rattle.std.specs.Prelude.{◌≡◌, ◌<◌};
 
-use crate::began::start_of;
 use crate::ending::{Ending, ending_of};
 use crate::exit::Exit;
 use crate::host::Host;
-use crate::server::Server;
 use crate::service::serve_and_close;
 use crate::services::{AllServed, Services};
-use crate::trace_disk::TraceDisk;
-use crate::trace_fault::{Told, TraceFault};
-use crate::trace_files::{FilePort, TraceFiles};
-use crate::tracing::Trace;
 use ipc_base::{Failures, PortWrite};
 use ipc_host::SocketPort;
 use ipc_lock::Naming;
+use ipc_tracing::{FilePort, Server, ToldFault, Trace, TraceDisk, TraceFault, TraceFiles, start_of};
 use l4sh_options::ServerOptions;
 use std::fs::File;
 use std::marker::Brand;
@@ -73,7 +68,7 @@ where
         + Sync,
 {
     server.keep_nothing();
-    host.followers.close(server.rt);
+    host.trace.followers.close(server.rt);
     ending_of(serve_and_close(server, host, options, services), is_whole)
 }
 
@@ -100,7 +95,7 @@ where
     requires writes_parts { (writes.parts ≡ L.parts) × (0 < writes.parts) }
 {
     tell_pipe(server.rt, options);
-    let files = TraceFiles::new(options, &host.meter, start_of(server));
+    let files = TraceFiles::new(options, &host.trace.meter, start_of(server));
     let begun = begin_trace(server, host, options, files, Failures::<L>::new(writes));
     if host.guests.is_stopping(server.rt) {
         drop(begun);
@@ -109,7 +104,7 @@ where
     match begun {
         Ok(trace) => serve_beside(server, host, options, files, trace, services),
         Err(fault) => {
-            let fault = fault.with_reason(host.meter.reason());
+            let fault = fault.with_reason(host.trace.meter.reason());
             serve_without(server, host, options, fault, services)
         }
     }
@@ -259,13 +254,13 @@ where
     R: Wait + Clock + Eprint + TraceDisk,
     P: PortWrite + Drop,
 {
-    match files.follow(server, host, trace) {
+    match files.follow(server, &host.trace, trace) {
         Ok(()) => true,
         Err(fault) => {
-            let fault = fault.with_reason(host.meter.reason());
+            let fault = fault.with_reason(host.trace.meter.reason());
             stopped(server.rt, host, options, fault);
             server.keep_nothing();
-            host.followers.close(server.rt);
+            host.trace.followers.close(server.rt);
             if options.trace_required {
                 host.stop(server.rt);
             }
@@ -276,8 +271,8 @@ where
 
 /// Says on standard error why the trace stopped, and keeps it for those who ask.
 fn stopped<R: Wait + Eprint>(rt: &R, host: &Host, options: &ServerOptions<'_>, fault: TraceFault) {
-    host.trace_stop.note(rt, fault);
+    host.trace.stop.note(rt, fault);
     let path = options.trace.unwrap_or("");
     // where standard error takes nothing, the exit status still says it
-    host.lines.tell(rt, &Told { fault, path });
+    host.lines.tell(rt, &ToldFault { fault, path });
 }

@@ -2,14 +2,15 @@
 ghost use Rattle.std.specs.Prelude.{◌≡◌, ◌+◌, length, true};
 ghost use Rattle.ipc_core.specs.declared.answers.Advance.TheVariants as advance;
 ghost use Rattle.ipc_core.specs.declared.command.Answer.TheVariants.{Advanced};
-ghost use Rattle.ipc_server.specs.Working.{MovesSome, TicksSome};
+ghost use Rattle.ipc_server.specs.Working.{MovesSome};
+ghost use Rattle.ipc_tracing.specs.Working.{TicksSome};
 
-use crate::server::Server;
 use ipc_base::Past;
 use ipc_connection::PenPort;
 use ipc_core::{Advance, Answer, Command};
 use ipc_lock::Naming;
 use ipc_session::{Beat, Gate, WorkPort};
+use ipc_tracing::Server;
 use std::rt::Clock;
 use std::sync::Wait;
 use std::sync::atomic::{AtomicBool, Ordering};

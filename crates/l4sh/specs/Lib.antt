@@ -1,4 +1,1 @@
-pub mod Exits
-pub mod Fronts
-pub mod Looking
 pub mod Talking

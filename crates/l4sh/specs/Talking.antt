@@ -3,8 +3,8 @@ use Rattle.std.specs.Prelude.{◌≡◌, ℕ, List, [], Option, Some, ⊤}
 use Rattle.ipc_client.specs.ClientParts.{ClientParts}
 use Rattle.l4sh_talk.specs.Talks.{EndsTalk, talk_of}
 use Rattle.l4sh_talk.specs.declared.ending.Ending.{Ending}
-use Rattle.l4sh.specs.declared.exit.Exit.{Exit}
-use Rattle.l4sh.specs.declared.exit.Exit.TheVariants.{Done, NoMemory, DeviceFailed}
+use Rattle.l4sh_look.specs.declared.exit.Exit.{Exit}
+use Rattle.l4sh_look.specs.declared.exit.Exit.TheVariants.{Done, NoMemory, DeviceFailed}
 
 -- at the end or where that is asked for, without memory, or where a device failed
 abbrev pub MayEndTalk : Exit → Type 0

@@ -1,8 +1,8 @@
 //! A live server is asked what it does.
-use crate::ending::{Ending, told};
-use crate::exit::Exit;
 use ipc_base::{PortWrite, write_all};
 use ipc_client::{PATIENCE, is_late};
+use l4sh_files::{Ending, told};
+use l4sh_look::Exit;
 use std::alloc::{AllocError, Global};
 use std::fmt;
 use std::io::{self, ErrorKind, Read, Write};

@@ -1,15 +1,14 @@
 //! The trace of a live server, in words as it comes.
 use crate::asking::{Asked, Question, ask, silent};
-use crate::ending::Ending;
-use crate::exit::Exit;
-use crate::follow::{selection_of, tell_entry};
 use crate::live_state::live_times;
 use ipc_base::{Failures, PieceBuffer, PortRead, PortWrite, ReadPort};
 use ipc_client::{PatientStream, Untold};
 use ipc_lines::{LineFault, read_entry};
 use ipc_trace::{LineEnd, Part, PartLines, Stage, next_line};
 use l4sh_explain::Printable;
+use l4sh_files::Ending;
 use l4sh_follow::Follower;
+use l4sh_look::{Exit, selection_of, tell_entry};
 use l4sh_options::FollowOptions;
 use std::alloc::Global;
 use std::net::Net;

@@ -2,20 +2,16 @@
 ghost use Rattle.std.specs.Prelude.{◌≡◌};
 ghost use Rattle.ipc_words.specs.Limits.{max_calls, max_entries};
 
-use crate::bad_lines::with_reason;
-use crate::ending::Ending;
-use crate::exit::Exit;
-use crate::kept::KeptPort;
-use crate::live::talk_to_server;
-use crate::opening::of_input;
-use crate::prompted::{PromptedPort, Watch};
+use crate::live::{Talked, talk_to_server};
+use crate::prompted::{PromptedPort, Watch, prompt};
 use crate::talk::talk_with;
-use crate::terminal::{is_told_at_terminal, prompt};
 use crate::watched::WatchedPort;
 use ipc_base::{Failures, PortWrite, ReadPort};
 use ipc_core::{Limits, MAX_CALLS, MAX_ENTRIES};
 use ipc_shell::{run_script, wire_script};
 use l4sh_explain::Grammar;
+use l4sh_files::{Ending, KeptPort, is_told_at_terminal, of_input, with_reason};
+use l4sh_look::Exit;
 use l4sh_options::{ScriptLimits, TalkOptions};
 use std::alloc::Global;
 use std::net::Net;
@@ -85,12 +81,11 @@ pub(crate) fn talk_from_input<L: Ledger, R: Input + Print + Eprint + Net, W: Por
     options: &TalkOptions<'_>,
     reads: Failures<L>,
     writer: &mut W,
-) -> Ending {
+) -> Talked {
     let watch = Watch::new();
     let typed = ReadPort::new(rt.reader(), reads);
     let mut reader = PromptedPort::new(rt, typed, prompt(), &watch);
-    let talked = talk_to_server(rt, alloc, options, &watch, &mut reader, writer);
-    Ending::WithServer(talked)
+    talk_to_server(rt, alloc, options, &watch, &mut reader, writer)
 }
 
 fn kernel_limits(limits: &ScriptLimits) -> Limits

@@ -1,10 +1,9 @@
 //! What a live server does, as `l4sh` shows it.
 use crate::asking::{Question, ask_server};
-use crate::began::{no_time, start_in};
-use crate::ending::{Ending, exit_alone, told};
-use crate::exit::Exit;
 use ipc_base::{MemoryPort, PortWrite};
 use ipc_shell::put;
+use l4sh_files::{Ending, exit_alone, no_time, start_in, told};
+use l4sh_look::Exit;
 use l4sh_times::{Times, timed_state};
 use std::alloc::Global;
 use std::net::Net;

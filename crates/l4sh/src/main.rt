@@ -6,44 +6,25 @@
 
 ghost use Rattle.std.specs.Prelude.{◌≡◌, ◌<◌};
 
+mod answering;
 mod asking;
-mod bad_lines;
-mod began;
-mod begun;
-mod chart;
-mod counting;
 mod ending;
-mod exit;
-mod files;
-mod follow;
 mod following;
-mod history;
 mod inputs;
-mod judging;
-mod kept;
-mod last_state;
 mod live;
 mod live_state;
-mod looking;
-mod middle;
-mod migrating;
-mod new_file;
 mod obeying;
-mod opening;
-mod printing;
-mod progress;
 mod prompted;
 mod rotating;
-mod several;
+mod subject;
 mod talk;
-mod terminal;
-mod threads;
 mod watched;
 
 use clap::error::ErrorKind;
-use ending::{Ending, ended, ended_alone};
-use exit::Exit;
+use ending::{ShellEnding, told_ending};
 use ipc_base::{Failures, WritePort};
+use l4sh_files::ended_alone;
+use l4sh_look::Exit;
 use l4sh_options::{ShellOptions, mistake_text, shell_options, tell_version};
 use obeying::obey_into;
 use std::alloc::Global;
@@ -78,7 +59,7 @@ fn obey_words<R: Alloc + Files + Input + Print + Eprint + Clock + Net>(
         Ok(options) => {
             let (reads, writes) = (Blank::new(1), Blank::new(1));
             let ending = obey::<Brand, Brand, _>(rt, alloc, &options, reads, writes);
-            ended(rt, &ending)
+            told_ending(rt, &ending)
         }
         Err(error) => tell_error(rt, alloc, words, &error),
     }
@@ -133,7 +114,7 @@ fn obey<L: Ledger, M: Ledger, R: Files + Input + Print + Eprint + Clock + Net>(
     options: &ShellOptions<'_>,
     reads: Blank,
     writes: Blank,
-) -> Ending
+) -> ShellEnding
     requires reads_name { reads.name ≡ L.name }
     requires reads_parts { (reads.parts ≡ L.parts) × (0 < reads.parts) }
     requires writes_name { writes.name ≡ M.name }

@@ -1,13 +1,12 @@
 //! What each subcommand does.
-use crate::ending::Ending;
-use crate::history::part_files;
+use crate::answering::print_answer;
+use crate::ending::ShellEnding;
 use crate::inputs::{run_input, talk_from_input, talk_over_input, wire_input};
-use crate::looking::print_answer;
-use crate::migrating::{Migration, migrate_file};
-use crate::printing::{chart_of, check_of, count_of, follow_of, script_in, state_of};
 use crate::rotating::rotate_trace;
+use crate::subject::{count_of, follow_of, state_of};
 use ipc_base::{Failures, PortWrite};
 use l4sh_explain::{Told, answer_period, answer_tag, explain};
+use l4sh_files::{Ending, Migration, chart_of, check_of, migrate_file, part_files, script_in};
 use l4sh_options::ShellOptions;
 use std::alloc::{AllocError, Global};
 use std::net::Net;
@@ -21,8 +20,11 @@ pub(crate) fn obey_into<L: Ledger, R: Files + Input + Print + Eprint + Clock + N
     options: &ShellOptions<'_>,
     reads: Failures<L>,
     writer: &mut W,
-) -> Ending {
-    match options {
+) -> ShellEnding {
+    let ending = match options {
+        ShellOptions::TalkTo(talk) => {
+            return ShellEnding::WithServer(talk_from_input(rt, alloc, talk, reads, writer));
+        }
         ShellOptions::Run(limits) => run_input(rt, alloc, limits, reads, writer),
         ShellOptions::Wire => wire_input(rt, alloc, reads, writer),
         ShellOptions::Check { files } => check_of(rt, alloc, files.as_slice(), reads, writer),
@@ -47,11 +49,11 @@ pub(crate) fn obey_into<L: Ledger, R: Files + Input + Print + Eprint + Clock + N
         }
         ShellOptions::Rotate { dir } => rotate_trace(rt, alloc, *dir, writer),
         ShellOptions::Talk => talk_over_input(rt, alloc, reads, writer),
-        ShellOptions::TalkTo(talk) => talk_from_input(rt, alloc, talk, reads, writer),
         ShellOptions::Explain { word } => answer_word(explain(alloc, *word), writer),
         ShellOptions::Tag { word } => answer_word(answer_tag(alloc, *word), writer),
         ShellOptions::Period { word } => answer_word(answer_period(alloc, *word), writer),
-    }
+    };
+    ShellEnding::Alone(ending)
 }
 
 /// Prints the answer to a word, or gives the reason why there is none.

@@ -2,11 +2,15 @@
 ghost use Rattle.std.specs.Prelude.{◌+◌};
 
 use ipc_base::{PortFault, PortRead};
+use l4sh_files::is_typed_at_terminal;
 use libc::net as c;
 use libc::types::pollfd;
 use std::os::fd::AsRawFd;
 use std::os::unix::net::UnixStream;
 use std::sync::atomic::{AtomicBool, AtomicI32, Ordering};
+
+/// What stands before each line that is typed at a terminal.
+const PROMPT: &str = "l4sh> ";
 
 /// No descriptor: poll leaves it out.
 const NONE: i32 = -1;
@@ -65,6 +69,15 @@ fn end_of(fd: i32) -> pollfd {
         fd,
         events: c::POLLIN | c::POLLRDHUP,
         revents: 0,
+    }
+}
+
+/// The prompt: none where standard input or standard output is no terminal.
+pub(crate) fn prompt() -> &'static str {
+    if is_typed_at_terminal() && libc::isatty(libc::STDOUT_FILENO) == 1 {
+        PROMPT
+    } else {
+        ""
     }
 }
 

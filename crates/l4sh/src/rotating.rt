@@ -1,11 +1,10 @@
 //! A live server is asked to go on with its trace in a further file.
 use crate::asking::{Question, ask_server};
-use crate::ending::{Ending, exit_alone, told};
-use crate::exit::Exit;
 use crate::following::BY_SERVER;
-use crate::several::put_printed;
 use ipc_base::{MemoryPort, PortWrite};
 use l4sh_explain::Printable;
+use l4sh_files::{Ending, exit_alone, put_printed, told};
+use l4sh_look::Exit;
 use std::alloc::Global;
 use std::net::Net;
 

@@ -1,7 +1,6 @@
 ghost use Rattle.std.specs.Prelude.{◌≡◌, ◌≢◌, ◌+◌, ◌<◌, IfSome, OnErr, OnOk, Some};
 ghost use Rattle.l4sh.specs.Talking.{MayEndTalk};
 
-use crate::exit::Exit;
 use ipc_base::{PieceBuffer, PortFault, PortRead, PortWrite};
 use ipc_core::{Kernel, Limits};
 use ipc_history::{Entry, Input};
@@ -10,6 +9,7 @@ use ipc_shell::{marked_kernel, obey_line, put};
 use ipc_trace::{LineEnd, next_line};
 use ipc_words::ThreadId;
 use ipc_words::limits::MAX_LINE_BYTES;
+use l4sh_look::Exit;
 use l4sh_state::Spaces;
 use l4sh_talk::{HELP, Typed, read_typed, words_beside};
 use std::alloc::{AllocError, Global};

@@ -1,0 +1,74 @@
+ghost use Rattle.ipc_tracing.specs.Working.{SubmitsSome, TicksSome};
+
+use crate::shared_blocks::SharedBlocks;
+use ipc_connection::PenPort;
+use ipc_core::{Answer, Command};
+use ipc_host::ServerClock;
+use ipc_items::FreeBlocks;
+use ipc_lock::{Naming, SharedKernel};
+use std::alloc::Global;
+use std::rt::Clock;
+use std::sync::ledger::Ledger;
+use std::sync::{Mutex, Wait};
+
+/// What all workers of a server share: the kernel under its lock, the clock, and the memory of long
+/// strings.
+#[derive(Drop)]
+pub struct Server<'a, C: Naming, T: Ledger, P: PenPort + Drop, R> {
+    pub rt: &'a R,
+    pub alloc: Global,
+    pub shared: &'a SharedKernel<C, T, P>,
+    pub clock: ServerClock,
+    blocks: Mutex<FreeBlocks>,
+}
+
+impl<'a, C: Naming, T: Ledger, P: PenPort + Drop, R: Wait + Clock> Server<'a, C, T, P, R> {
+    /// A server over a kernel.
+    pub fn new(
+        rt: &'a R,
+        alloc: Global,
+        shared: &'a SharedKernel<C, T, P>,
+        clock: ServerClock,
+    ) -> Self {
+        Server {
+            rt,
+            alloc,
+            shared,
+            clock,
+            blocks: Mutex::new(FreeBlocks::new(alloc)),
+        }
+    }
+
+    /// The memory of long strings, for one connection.
+    pub fn blocks(&self) -> SharedBlocks<'_, R> {
+        SharedBlocks::new(self.rt, &self.blocks)
+    }
+
+    /// The moment, in microseconds.
+    pub fn now(&self) -> u64 {
+        self.clock.now(self.rt)
+    }
+
+    /// Makes one step at this moment, by no thread's seat.
+    pub fn submit(&self, command: Command) -> Answer
+        ensures { SubmitsSome C P command result }
+    {
+        let now = self.now();
+        let answered = self.shared.submit(self.rt, now, None, command);
+        let (answer, _, _) = answered.into_parts();
+        answer
+    }
+
+    /// The kernel is told the moment.
+    pub fn tick(&self)
+        ensures { TicksSome C P }
+    {
+        let now = self.now();
+        drop(self.shared.submit(self.rt, now, None, Command::At(now)));
+    }
+
+    /// No entry is read any more by a trace: memory may let go of each.
+    pub fn keep_nothing(&self) {
+        self.shared.mark(self.rt, usize::MAX);
+    }
+}

@@ -1,0 +1,47 @@
+use Rattle.std.proofs.Common.{false, true, subst}
+use Rattle.ipc_trace.specs.Traces.{IsRead}
+use Rattle.ipc_shell.proofs.CheckLemmas.{bad_line, torn_lines, whole_lines}
+use Rattle.l4sh_look.specs.Looking.{IsPrinted}
+use Rattle.l4sh_look.specs.declared.looking.Look.TheVariants.{Counts}
+use Rattle.l4sh_look.proofs.LookLemmas.{looked_torn, printed, printed_torn, printed_whole}
+use Rattle.l4sh_look.proofs.counting.counts_of_trace.Goals as goal
+
+pub returns-in-Torn-clause-looks : goal.returns-in-Torn-clause-looks
+returns-in-Torn-clause-looks g c =
+    let bytes = g.R.PortRead.remaining c.args.reader.now in
+    let left = g.R.PortRead.remaining c.read_entries-read.new.port in
+    let version = c.read_entries-read.result.version in
+    let entries = c.read_entries-read.new.sink.counter in
+    let read = subst (IsRead bytes left version entries) c.in-Torn.is c.read_entries-read.ensures.read in
+    rw (c.torn_after.ensures entries c.count.ensures.count c.count.ensures.few)
+    (looked_torn (Counts c.args.is_json) bytes version entries c.tell-exit.result (torn_lines bytes left version entries read) c.tell-exit.ensures.said)
+
+pub returns-in-BadLine-clause-looks : goal.returns-in-BadLine-clause-looks
+returns-in-BadLine-clause-looks g c =
+    let bytes = g.R.PortRead.remaining c.args.reader.now in
+    let left = g.R.PortRead.remaining c.read_entries-read.new.port in
+    let version = c.read_entries-read.result.version in
+    let entries = c.read_entries-read.new.sink.counter in
+    let read = subst (IsRead bytes left version entries) c.in-BadLine.is c.read_entries-read.ensures.read in
+    bad_line bytes left version entries c.in-BadLine.number read
+
+pub returns-in-Whole-clause-prints : goal.returns-in-Whole-clause-prints
+returns-in-Whole-clause-prints g c is =
+    let bytes = g.R.PortRead.remaining c.args.reader.now in
+    let left = g.R.PortRead.remaining c.read_entries-read.new.port in
+    let version = c.read_entries-read.result.version in
+    let entries = c.read_entries-read.new.sink.counter in
+    let read = subst (IsRead bytes left version entries) c.in-Whole.is c.read_entries-read.ensures.read in
+    printed_whole version _ c.tell.result _ c.tell.ensures.said
+    (λ done. printed (Counts c.args.is_json) bytes version entries false _ _ (whole_lines bytes left version entries read) (c.tell.ensures.prints done)) is
+
+pub returns-in-Torn-clause-prints : goal.returns-in-Torn-clause-prints
+returns-in-Torn-clause-prints g c is =
+    let bytes = g.R.PortRead.remaining c.args.reader.now in
+    let left = g.R.PortRead.remaining c.read_entries-read.new.port in
+    let version = c.read_entries-read.result.version in
+    let entries = c.read_entries-read.new.sink.counter in
+    let read = subst (IsRead bytes left version entries) c.in-Torn.is c.read_entries-read.ensures.read in
+    printed_torn version entries _ c.tell-exit.result _ c.tell-exit.ensures.said
+    (λ done. printed (Counts c.args.is_json) bytes version entries true _ _ (torn_lines bytes left version entries read) (c.tell-exit.ensures.prints done))
+    (subst IsPrinted (c.torn_after.ensures entries c.count.ensures.count c.count.ensures.few) is)

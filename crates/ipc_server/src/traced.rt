@@ -9,7 +9,9 @@ use crate::services::{AllServed, Services};
 use ipc_base::{Failures, PortWrite};
 use ipc_host::SocketPort;
 use ipc_lock::Naming;
-use ipc_tracing::{FilePort, Server, ToldFault, Trace, TraceDisk, TraceFault, TraceFiles, start_of};
+use ipc_tracing::{
+    FilePort, Server, ToldFault, Trace, TraceDisk, TraceFault, TraceFiles, start_of,
+};
 use l4sh_options::ServerOptions;
 use std::fs::File;
 use std::marker::Brand;

@@ -9,10 +9,7 @@ mod caller;
 mod control;
 mod counters;
 mod ending;
-mod exit;
-mod host;
 mod noted;
-mod paths;
 mod probe;
 mod ready;
 mod served;
@@ -25,16 +22,16 @@ mod traced;
 mod working;
 
 use ending::{Ending, ended, status_of};
-use exit::Exit;
-use host::{Bound, Host};
 use ipc_core::{Limits, MAX_CALLS, MAX_ENTRIES};
 use ipc_host::{
     ErrorLines, Guests, ProcessStatus, Readiness, ServerClock, SocketPort, descriptors, room,
 };
 use ipc_lock::{BlankLog, Naming, SharedKernel};
-use ipc_tracing::{Server, SharedTrace, TraceDisk};
+use ipc_tracing::{
+    Bound, Door, Exit, Host, Listener, Server, SharedTrace, TraceDisk, control, listen, remove,
+    remove_door,
+};
 use l4sh_options::{ServerOptions, server_options};
-use paths::{Door, Listener, control, listen, remove, remove_door};
 use services::Services;
 use std::alloc::Global;
 use std::fs::File;

@@ -18,25 +18,25 @@ const MOST_WAITING: u16 = 65_535;
 #[derive(Drop)]
 pub struct Door {
     socket: UnixListener,
-    pub(crate) path: String,
+    pub path: String,
     /// The same socket once more, by which an accept that waits is ended.
     closer: UnixStream,
 }
 
 impl Door {
     /// The next connection that somebody makes.
-    pub(crate) fn accept(&self) -> io::Result<UnixStream> {
+    pub fn accept(&self) -> io::Result<UnixStream> {
         let (stream, _) = self.socket.accept()?;
         Ok(stream)
     }
 
     /// Ends an accept that waits, and each later one. Who connects from now on is refused.
-    pub(crate) fn close(&self) {
+    pub fn close(&self) {
         let _ = self.closer.shutdown(Shutdown::Both);
     }
 
     /// Closes it, and each connection that waits to be accepted. How many these were.
-    pub(crate) fn close_to_all(&self) -> u16 {
+    pub fn close_to_all(&self) -> u16 {
         self.close();
         let mut refused = 0u16;
         for _ in 0..MOST_WAITING {
@@ -52,8 +52,8 @@ impl Door {
 /// A space, 1 to `MAX_SPACE`, and where its clients connect.
 #[derive(Drop)]
 pub struct Listener {
-    pub(crate) space: u64,
-    pub(crate) door: Door,
+    pub space: u64,
+    pub door: Door,
 }
 
 /// Listens on DIR/space1 to DIR/spaceN, each with the permissions that were asked for as soon as it

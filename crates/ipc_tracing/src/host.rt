@@ -1,7 +1,7 @@
 //! What the workers of a server share beside the kernel.
 use crate::paths::{Door, Listener};
+use crate::shared_trace::SharedTrace;
 use ipc_host::{ErrorLines, Guests, ProcessStatus, Readiness, have_come, may_be_blocked, resident};
-use ipc_tracing::SharedTrace;
 use std::alloc::Global;
 use std::rt::Clock;
 use std::sync::Wait;
@@ -11,35 +11,35 @@ use std::{fmt, io};
 /// The connections, the paths that they come by, and what is told of them.
 #[derive(Drop)]
 pub struct Host {
-    pub(crate) guests: Guests,
+    pub guests: Guests,
     /// What keeps further connections out where so many are there as may be.
-    pub(crate) bound: Bound,
+    pub bound: Bound,
     /// Whom to tell that it listens.
-    pub(crate) readiness: Readiness,
-    pub(crate) listeners: Vec<Listener>,
+    pub readiness: Readiness,
+    pub listeners: Vec<Listener>,
     /// Where those connect who ask what the server does; None where nobody can.
-    pub(crate) control: Option<Door>,
+    pub control: Option<Door>,
     /// How many of them are there.
-    pub(crate) askers: AtomicU64,
+    pub askers: AtomicU64,
     /// How many connections each path takes before it closes; None where it never does.
-    pub(crate) connections: Option<u16>,
-    pub(crate) is_logged: bool,
+    pub connections: Option<u16>,
+    pub is_logged: bool,
     /// What is said on standard error.
-    pub(crate) lines: ErrorLines,
+    pub lines: ErrorLines,
     /// Whether a reader may look for a little while before it sleeps: where there are several
     /// processors.
-    pub(crate) is_eager: bool,
+    pub is_eager: bool,
     /// What the workers share of the trace.
-    pub(crate) trace: SharedTrace,
+    pub trace: SharedTrace,
     /// Where the worker of signals reads which have come.
-    pub(crate) signals: Option<ProcessStatus>,
+    pub signals: Option<ProcessStatus>,
     /// Where the worker of counters reads how much memory there is.
-    pub(crate) memory: Option<ProcessStatus>,
+    pub memory: Option<ProcessStatus>,
 }
 
 impl Host {
     /// Ends the service: no connection is taken any more, and each that is there is shut down.
-    pub(crate) fn stop<R: Wait>(&self, rt: &R) {
+    pub fn stop<R: Wait>(&self, rt: &R) {
         self.guests.stop(rt);
         for listener in &self.listeners {
             listener.door.close();
@@ -48,7 +48,7 @@ impl Host {
     }
 
     /// All connections have ended, and nobody is answered any more.
-    pub(crate) fn finish<R: Wait>(&self, rt: &R) {
+    pub fn finish<R: Wait>(&self, rt: &R) {
         self.guests.finish(rt);
         self.close_control();
     }
@@ -60,7 +60,7 @@ impl Host {
     }
 
     /// Whether a path closes that has had so many connections.
-    pub(crate) fn closes_after(&self, taken: u16) -> bool {
+    pub fn closes_after(&self, taken: u16) -> bool {
         match self.connections {
             Some(most) => taken >= most,
             None => false,
@@ -69,7 +69,7 @@ impl Host {
 
     /// Closes a path that has had its connections. It is told, and what helps, where nobody asked
     /// for that number, where somebody was waiting, and in the log.
-    pub(crate) fn close_path<R: Wait + Eprint>(&self, rt: &R, listener: &Listener) {
+    pub fn close_path<R: Wait + Eprint>(&self, rt: &R, listener: &Listener) {
         let refused = listener.door.close_to_all();
         let most = self.connections.unwrap_or(u16::MAX);
         if self.is_logged || refused > 0 || most == u16::MAX {
@@ -80,7 +80,7 @@ impl Host {
 
     /// Whether SIGINT and SIGTERM may have been blocked where the program was started, so that they
     /// end the service.
-    pub(crate) fn has_blocked_signals(&self, alloc: Global) -> bool {
+    pub fn has_blocked_signals(&self, alloc: Global) -> bool {
         match &self.signals {
             Some(status) => may_be_blocked(status, alloc),
             None => false,
@@ -88,7 +88,7 @@ impl Host {
     }
 
     /// Whether one of them has come.
-    pub(crate) fn has_signal(&self, alloc: Global) -> bool {
+    pub fn has_signal(&self, alloc: Global) -> bool {
         match &self.signals {
             Some(status) => have_come(status, alloc),
             None => false,
@@ -96,7 +96,7 @@ impl Host {
     }
 
     /// How many KiB of memory the process holds; 0 where the system does not tell it.
-    pub(crate) fn kibibytes(&self, alloc: Global) -> u64 {
+    pub fn kibibytes(&self, alloc: Global) -> u64 {
         match &self.memory {
             Some(status) => resident(status, alloc).unwrap_or(0),
             None => 0,
@@ -104,7 +104,7 @@ impl Host {
     }
 
     /// Tells what failed, once a minute at most, with the number of connections that are there.
-    pub(crate) fn complain<R: Wait + Clock + Eprint>(&self, rt: &R, what: &str, error: io::Error) {
+    pub fn complain<R: Wait + Clock + Eprint>(&self, rt: &R, what: &str, error: io::Error) {
         let (may, live) = self.guests.may_tell(rt);
         if may {
             self.lines.tell(rt, &Complaint { what, error, live });
@@ -113,7 +113,7 @@ impl Host {
 
     /// Tells that there is no room for a connection that waits, once a minute at most, and what
     /// helps.
-    pub(crate) fn tell_full<R: Wait + Clock + Eprint>(&self, rt: &R) {
+    pub fn tell_full<R: Wait + Clock + Eprint>(&self, rt: &R) {
         let (may, live) = self.guests.may_tell_full(rt);
         if may {
             let bound = self.bound;
@@ -133,7 +133,7 @@ pub enum Bound {
 
 impl Bound {
     /// What it is where so many may be there at one time, of those that `--live` lets in.
-    pub(crate) fn of(most: u64, live: u16) -> Bound {
+    pub fn of(most: u64, live: u16) -> Bound {
         if most < u64::from(live) {
             Bound::Descriptors
         } else {

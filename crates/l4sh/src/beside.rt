@@ -1,7 +1,8 @@
+//! Words beside an answer.
 use ipc_lines::read_hex;
-use ipc_words::{IpcError, MsgTag, Phase};
+use ipc_words::{IpcError, MsgTag};
 use l4sh_explain::{Printable, meaning_of, tell_tag};
-use l4sh_state::cause_of;
+use l4sh_talk::tell_error;
 use std::alloc::{AllocError, Global};
 
 /// Words beside the answer line of a command, which stands here without its newline. None where the
@@ -89,13 +90,4 @@ fn tell_outcome(text: &mut String, tag: u64, sender: &[u8], error: u64) -> Resul
 fn tell_message(text: &mut String, tag: u64, sender: &[u8]) -> Result<(), AllocError> {
     write!(text, "a message from {}: ", Printable(sender))?;
     tell_tag(text, MsgTag::from_word(tag))
-}
-
-/// Which phase failed, and why.
-pub fn tell_error(text: &mut String, error: IpcError) -> Result<(), AllocError> {
-    text.push_str(match error.phase() {
-        Phase::Send => "the send phase failed: ",
-        Phase::Receive => "the receive phase failed: ",
-    })?;
-    text.push_str(cause_of(error))
 }

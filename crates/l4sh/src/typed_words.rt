@@ -1,11 +1,11 @@
-use crate::calling::{CallFault, THREAD, call_line};
-use crate::faults::{BadWord, CONTROL, WordFault};
-use crate::quoting::words_of;
-use crate::spelling::{read_control, read_thread};
+//! What people type to a shell, and the exact line of a script that it stands for.
 use ipc_lines::{HexText, IdText};
 use ipc_words::ThreadId;
 use ipc_words::limits::MAX_STRING_BYTES;
 use l4sh_explain::{Grammar, read_number, read_time, reason_of, reason_text};
+use l4sh_talk::{
+    BadWord, CONTROL, CallFault, THREAD, WordFault, call_line, read_control, read_thread, words_of,
+};
 use std::alloc::{AllocError, Global};
 
 /// What can be typed.

@@ -8,7 +8,7 @@ use crate::selection::{Selection, Subject};
 use crate::telling::tell_entry;
 use ipc_history::{Call, Entry, Input, Output};
 use ipc_words::ThreadId;
-use l4sh_times::Times;
+use l4sh_state::Times;
 use std::alloc::{AllocError, Global};
 use std::marker::Model;
 

@@ -1,7 +1,7 @@
 -- What stands before the time of a beginning, and what times of day are.
 use Rattle.std.specs.Prelude.{◌≡◌, ◌++◌, ◌∷◌, [], ℕ, Bool, true, false, List, codes}
-use Rattle.l4sh_times.specs.declared.times.Times.{Times}
-use Rattle.l4sh_times.specs.declared.times.Times.TheVariants.{Micros, OfDay}
+use Rattle.l4sh_state.specs.declared.times.Times.{Times}
+use Rattle.l4sh_state.specs.declared.times.Times.TheVariants.{Micros, OfDay}
 
 -- whether moments are told as times of day
 abbrev pub are_of_day : Times → Bool

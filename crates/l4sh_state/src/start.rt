@@ -1,5 +1,5 @@
 ghost use Rattle.std.specs.Prelude.{IfSome};
-ghost use Rattle.l4sh_times.specs.Times.{IsBegan};
+ghost use Rattle.l4sh_state.specs.Times.{IsBegan};
 
 use jiff::Timestamp;
 use std::fmt;

@@ -1,5 +1,5 @@
 ghost use Rattle.std.specs.Prelude.{◌≡◌};
-ghost use Rattle.l4sh_times.specs.Times.{are_of_day};
+ghost use Rattle.l4sh_state.specs.Times.{are_of_day};
 
 use crate::start::Start;
 use std::fmt;

@@ -1,12 +1,13 @@
 ghost use Rattle.std.specs.Prelude.{◌≡◌, ◌≢◌, ◌+◌, ◌<◌, IsSome, Some};
 
 use crate::exit::Exit;
+use crate::follower::Follower;
+use crate::selection::{Selection, read_label};
 use ipc_base::{PieceBuffer, PortRead, PortWrite};
 use ipc_history::Entry;
 use ipc_shell::put;
 use ipc_trace::{LineEnd, LineFault, Part, TraceLines, next_line};
 use ipc_words::ThreadId;
-use l4sh_follow::{Follower, Selection, read_label};
 use l4sh_options::FollowOptions;
 use l4sh_state::{Times, read_threads};
 use std::alloc::Global;

@@ -1,6 +1,6 @@
 ghost use Rattle.std.specs.Prelude.{◌≡◌, ◌==◌, IfErr, IfOk, find, map};
 ghost use Rattle.std.specs.List.{position};
-ghost use Rattle.l4sh_follow.specs.Following.{call_of_note, noted, turned_note, with_call, without};
+ghost use Rattle.l4sh_look.specs.Following.{call_of_note, noted, turned_note, with_call, without};
 
 use ipc_base::Past;
 use ipc_history::{Call, Entry, Input, Output};
@@ -40,7 +40,7 @@ pub(crate) struct Notes {
 impl Model for Notes {
     ghost use Rattle.std.specs.Prelude.{◌≡◌, List, map};
     ghost use Rattle.ipc_history.specs.declared.entry.Entry.{Entry};
-    ghost use Rattle.l4sh_follow.specs.Following.{call_of_note, last_calls};
+    ghost use Rattle.l4sh_look.specs.Following.{call_of_note, last_calls};
 
     ghost Value = { List Entry };
 
@@ -51,7 +51,7 @@ impl Model for Notes {
 
 impl Note {
     ghost use Rattle.std.specs.Prelude.{◌≡◌};
-    ghost use Rattle.l4sh_follow.specs.Following.{call_entered, call_of_note};
+    ghost use Rattle.l4sh_look.specs.Following.{call_entered, call_of_note};
 
     /// The note of a call that is entered, whose receiver is shown its caller so.
     pub(crate) fn new(number: u64, caller: ThreadId, call: &Call, shown_as: &ShownAs) -> Note
@@ -84,7 +84,7 @@ impl Note {
 
 impl Notes {
     ghost use Rattle.std.specs.Prelude.{◌≡◌, ◌∷◌, ◌++◌, [], IfErr, IfOk, OnOk, option_map};
-    ghost use Rattle.l4sh_follow.specs.Following.{call_at, call_of_note, last_calls};
+    ghost use Rattle.l4sh_look.specs.Following.{call_at, call_of_note, last_calls};
 
     /// None yet.
     #[tactic(auto, unfolding(crate::specs::Following::last_calls))]

@@ -1,7 +1,7 @@
 use Rattle.std.proofs.Common.{◌≡◌, ◌<◌, ◌∙◌, ap, arith, length, set, sym}
 use Rattle.std.proofs.lemmas.List.Edits.{map_over_more}
-use Rattle.l4sh_follow.specs.Following.{turned_note}
-use Rattle.l4sh_follow.proofs.notes.turn.Goals as goal
+use Rattle.l4sh_look.specs.Following.{turned_note}
+use Rattle.l4sh_look.proofs.notes.turn.Goals as goal
 
 pub calls-preserved : goal.calls-preserved
 calls-preserved c =

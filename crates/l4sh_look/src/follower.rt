@@ -1,7 +1,7 @@
 ghost use Rattle.std.specs.Prelude.{◌≡◌, option_map};
 ghost use Rattle.ipc_words.specs.MsgTag.{label_of};
-ghost use Rattle.l4sh_follow.specs.Following.{about, about_call, about_output, about_pair, about_phases, alone};
-ghost use Rattle.l4sh_follow.specs.Following.{call_at, call_of_note, last_calls};
+ghost use Rattle.l4sh_look.specs.Following.{about, about_call, about_output, about_pair, about_phases, alone};
+ghost use Rattle.l4sh_look.specs.Following.{call_at, call_of_note, last_calls};
 
 use crate::notes::{Note, Notes};
 use crate::selection::{Selection, Subject};
@@ -27,7 +27,7 @@ pub struct Follower {
 }
 
 impl Model for Follower {
-    ghost use Rattle.l4sh_follow.specs.Following.{Followed};
+    ghost use Rattle.l4sh_look.specs.Following.{Followed};
 
     ghost Value = { Followed };
 
@@ -38,7 +38,7 @@ impl Follower {
     ghost use Rattle.std.specs.Prelude.{◌≡◌, ◌++◌, ◌∷◌, [], IfOk, IfSome, OnOk, is_some};
     ghost use Rattle.std.specs.String.{string_bytes};
     ghost use Rattle.l4sh_state.specs.Lines.{IsLine};
-    ghost use Rattle.l4sh_follow.specs.Following.{about, is_told_behind, last_calls, tells_of};
+    ghost use Rattle.l4sh_look.specs.Following.{about, is_told_behind, last_calls, tells_of};
 
     /// A history of no entry, of which this is to be told, with its moments by these times.
     pub fn new(alloc: Global, selection: Selection, times: Times) -> Follower

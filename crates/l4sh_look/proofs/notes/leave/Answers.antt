@@ -1,8 +1,8 @@
 use Rattle.std.proofs.Common.{◌≡◌, ◌==◌, ◌∙◌, List, None, ap, sym}
 use Rattle.std.specs.List.{position}
-use Rattle.l4sh_follow.specs.declared.notes.Note.{Note}
-use Rattle.l4sh_follow.proofs.NoteLemmas.{absent_from}
-use Rattle.l4sh_follow.proofs.notes.leave.Goals as goal
+use Rattle.l4sh_look.specs.declared.notes.Note.{Note}
+use Rattle.l4sh_look.proofs.NoteLemmas.{absent_from}
+use Rattle.l4sh_look.proofs.notes.leave.Goals as goal
 
 pub returns-in-None : goal.returns-in-None
 returns-in-None c =

@@ -10,10 +10,10 @@ use Rattle.ipc_history.specs.declared.entry.Entry.TheVariants.{Given, Written}
 use Rattle.ipc_history.specs.declared.entry.Input.TheVariants.{At, Opened, Called, Exreg, Broke, Moved}
 use Rattle.ipc_history.specs.declared.entry.Output.{Output}
 use Rattle.ipc_history.specs.declared.entry.Output.TheVariants.{Began, Turned, Ended, Overflowed, Aborted, Failed}
-use Rattle.l4sh_follow.specs.Selecting.{is_told}
-use Rattle.l4sh_follow.specs.declared.notes.Note.{Note}
-use Rattle.l4sh_follow.specs.declared.selection.Selection.{Selection}
-use Rattle.l4sh_follow.specs.declared.selection.Subject.{Subject}
+use Rattle.l4sh_look.specs.Selecting.{is_told}
+use Rattle.l4sh_look.specs.declared.notes.Note.{Note}
+use Rattle.l4sh_look.specs.declared.selection.Selection.{Selection}
+use Rattle.l4sh_look.specs.declared.selection.Subject.{Subject}
 
 -- the last call of a thread: its number, its caller, the receiver of its send phase, its
 -- FromSpecifier as it stands, and the label of its message

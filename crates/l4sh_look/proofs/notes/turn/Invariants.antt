@@ -1,7 +1,7 @@
 -- The calls so far have turned.
 use Rattle.std.proofs.Common.{◌≡◌, ◌++◌, map, take, drop}
-use Rattle.l4sh_follow.specs.Following.{turned_note}
-use Rattle.l4sh_follow.proofs.notes.turn.Given as goal
+use Rattle.l4sh_look.specs.Following.{turned_note}
+use Rattle.l4sh_look.proofs.notes.turn.Given as goal
 
 abbrev pub invariant-calls : goal.invariant-calls
 invariant-calls l =

@@ -1,9 +1,9 @@
 use Rattle.std.proofs.Common.{◌≡◌, ◌==◌, ◌∙◌, List, None, ap, map, sym}
 use Rattle.std.specs.List.{position}
-use Rattle.l4sh_follow.specs.Following.{call_of_note}
-use Rattle.l4sh_follow.specs.declared.notes.Note.{Note}
-use Rattle.l4sh_follow.proofs.NoteLemmas.{appended_to}
-use Rattle.l4sh_follow.proofs.notes.enter.Goals as goal
+use Rattle.l4sh_look.specs.Following.{call_of_note}
+use Rattle.l4sh_look.specs.declared.notes.Note.{Note}
+use Rattle.l4sh_look.proofs.NoteLemmas.{appended_to}
+use Rattle.l4sh_look.proofs.notes.enter.Goals as goal
 
 pub returns-in_ok-push-in-None-clause-ok : goal.returns-in_ok-push-in-None-clause-ok
 returns-in_ok-push-in-None-clause-ok c =

@@ -2,8 +2,8 @@
 use Rattle.std.specs.Prelude.{ℕ, Bool, true, false, not, ◌&&◌, ◌||◌, ◌==◌, Option, Some, None}
 use Rattle.std.specs.Global.{Vec}
 use Rattle.std.specs.List.{list_any}
-use Rattle.l4sh_follow.specs.declared.selection.Selection.{Selection}
-use Rattle.l4sh_follow.specs.declared.selection.Subject.{Subject}
+use Rattle.l4sh_look.specs.declared.selection.Selection.{Selection}
+use Rattle.l4sh_look.specs.declared.selection.Subject.{Subject}
 
 abbrev pub is_one_of : ℕ → ℕ → ℕ → Bool
 is_one_of thread other one = (one == thread) || (one == other)

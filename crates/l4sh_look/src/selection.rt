@@ -2,7 +2,7 @@ ghost use Rattle.std.specs.List.{list_any};
 ghost use Rattle.std.specs.Prelude.{◌≡◌, ◌⊎◌, IfSome};
 ghost use Rattle.std.specs.Fmt.{decimal};
 ghost use Rattle.ipc_lines.specs.Texts.{hex_text};
-ghost use Rattle.l4sh_follow.specs.Selecting.{has_label, is_one_of, is_told, names_one};
+ghost use Rattle.l4sh_look.specs.Selecting.{has_label, is_one_of, is_told, names_one};
 
 use ipc_lines::{read_decimal, read_hex};
 use ipc_words::ThreadId;

@@ -1,8 +1,8 @@
 use Rattle.std.proofs.Common.{◌==◌, ◌∙◌, List, Option, ap, find, option_map}
-use Rattle.l4sh_follow.specs.Following.{LastCall, call_at, call_of_note, last_calls}
-use Rattle.l4sh_follow.specs.declared.notes.Note.{Note}
-use Rattle.l4sh_follow.proofs.NoteLemmas.{found}
-use Rattle.l4sh_follow.proofs.notes.Notes.get.Goals as goal
+use Rattle.l4sh_look.specs.Following.{LastCall, call_at, call_of_note, last_calls}
+use Rattle.l4sh_look.specs.declared.notes.Note.{Note}
+use Rattle.l4sh_look.proofs.NoteLemmas.{found}
+use Rattle.l4sh_look.proofs.notes.Notes.get.Goals as goal
 
 pub returns : goal.returns
 returns c =

@@ -5,8 +5,8 @@ use Rattle.std.proofs.lemmas.Bool.{ltb-false}
 use Rattle.std.proofs.lemmas.List.Quantifiers.{position-Some}
 use Rattle.std.proofs.lemmas.List.Sums.{fails_before_first, fold_push}
 use Rattle.ipc_history.specs.declared.entry.Entry.{Entry}
-use Rattle.l4sh_follow.specs.Following.{call_at, call_of_note, last_calls, noted, turned_note, turned_to, with_call, without}
-use Rattle.l4sh_follow.specs.declared.notes.Note.{Note}
+use Rattle.l4sh_look.specs.Following.{call_at, call_of_note, last_calls, noted, turned_note, turned_to, with_call, without}
+use Rattle.l4sh_look.specs.declared.notes.Note.{Note}
 
 -- of no entry there is none, and one entry more is noted
 pub none_noted : last_calls [] ≡ []

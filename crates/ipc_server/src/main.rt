@@ -305,15 +305,6 @@ fn host_of<C: Naming, T: Ledger, R: Threads + Files<File = File>>(
     }
 }
 
-/// What keeps further connections out where so many are there.
-fn bound_of(options: &ServerOptions<'_>, most: u64) -> Bound {
-    if most < u64::from(options.live) {
-        Bound::Descriptors
-    } else {
-        Bound::Live
-    }
-}
-
 fn has_several_processors<R: Threads>(rt: &R) -> bool {
     match thread::available_parallelism(rt) {
         Ok(count) => count.get() > 1,

@@ -6,8 +6,6 @@ ghost use Rattle.ipc_server.specs.Services.{ServesAll};
 
 use crate::control::answer_askers;
 use crate::counters::counters_now;
-use crate::host::Host;
-use crate::paths::Listener;
 use crate::served::Served;
 use crate::services::{AllServed, Services};
 use crate::serving::{Ports, serve_connection, start_worker};
@@ -16,7 +14,7 @@ use crate::working::{Alarm, OverGate, Worker};
 use ipc_host::{Admission, EagerStream, Notice, SocketPort, inode_of};
 use ipc_lock::Naming;
 use ipc_session::{Open, move_loop, tick_loop};
-use ipc_tracing::Server;
+use ipc_tracing::{Host, Listener, Server};
 use std::io::ErrorKind;
 use std::os::unix::net::UnixStream;
 use std::rt::Clock;

@@ -1,11 +1,9 @@
 //! Those who ask what the server does: they connect to the path `control`, say a word, and are
 //! answered with a text.
 use crate::counters::{CounterLines, counters_now};
-use crate::host::Host;
-use crate::paths::Door;
 use ipc_host::SocketPort;
 use ipc_lock::Naming;
-use ipc_tracing::{NO_MEMORY, Server, answer_with_part, began_text, follow, say};
+use ipc_tracing::{Door, Host, NO_MEMORY, Server, answer_with_part, began_text, follow, say};
 use l4sh_state::{State, drops_of, tell_state};
 use std::alloc::AllocError;
 use std::io::Read;

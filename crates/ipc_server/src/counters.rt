@@ -1,8 +1,7 @@
 //! What a server does at one moment, in numbers.
-use crate::host::Host;
 use ipc_host::{Counts, SocketPort};
 use ipc_lock::Naming;
-use ipc_tracing::{Server, TraceFault};
+use ipc_tracing::{Host, Server, TraceFault};
 use std::fmt;
 use std::sync::Wait;
 use std::sync::ledger::Ledger;

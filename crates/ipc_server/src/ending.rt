@@ -1,10 +1,10 @@
 //! How the server ended.
 ghost use Rattle.ipc_server.specs.Ending.{EndsServed};
 
-use crate::exit::Exit;
 use crate::services::AllServed;
 use ipc_host::{SocketPort, takes_lines};
 use ipc_lock::Naming;
+use ipc_tracing::Exit;
 use std::io;
 use std::process::ExitCode;
 

@@ -9,10 +9,7 @@ mod caller;
 mod control;
 mod counters;
 mod ending;
-mod exit;
-mod host;
 mod noted;
-mod paths;
 mod probe;
 mod ready;
 mod served;
@@ -25,16 +22,16 @@ mod traced;
 mod working;
 
 use ending::{Ending, ended, status_of};
-use exit::Exit;
-use host::{Bound, Host};
 use ipc_core::{Limits, MAX_CALLS, MAX_ENTRIES};
 use ipc_host::{
     ErrorLines, Guests, ProcessStatus, Readiness, ServerClock, SocketPort, descriptors, room,
 };
 use ipc_lock::{BlankLog, Naming, SharedKernel};
-use ipc_tracing::{Server, SharedTrace, TraceDisk};
+use ipc_tracing::{
+    Bound, Door, Exit, Host, Listener, Server, SharedTrace, TraceDisk, control, listen, remove,
+    remove_door,
+};
 use l4sh_options::{ServerOptions, server_options};
-use paths::{Door, Listener, control, listen, remove, remove_door};
 use services::Services;
 use std::alloc::Global;
 use std::fs::File;
@@ -305,15 +302,6 @@ fn host_of<C: Naming, T: Ledger, R: Threads + Files<File = File>>(
         trace: SharedTrace::new(server.alloc, options),
         signals: ProcessStatus::open(server.rt),
         memory: ProcessStatus::open(server.rt),
-    }
-}
-
-/// What keeps further connections out where so many are there.
-fn bound_of(options: &ServerOptions<'_>, most: u64) -> Bound {
-    if most < u64::from(options.live) {
-        Bound::Descriptors
-    } else {
-        Bound::Live
     }
 }
 

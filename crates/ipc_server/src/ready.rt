@@ -1,5 +1,5 @@
 //! Who is told that clients can connect.
-use crate::host::Host;
+use ipc_tracing::Host;
 use std::alloc::Global;
 use std::io;
 use std::net::Net;

@@ -1,16 +1,13 @@
 //! Serving to the end: the paths are told and served, with the client of the program's own where it
 //! is asked for.
 use crate::accepting::serve_all;
-use crate::exit::Exit;
-use crate::host::Host;
-use crate::paths::{Listener, path_of};
 use crate::probe::probe;
 use crate::ready::tell_ready;
 use crate::services::{AllServed, Services};
 use crate::serving::start_worker;
 use ipc_host::SocketPort;
 use ipc_lock::Naming;
-use ipc_tracing::Server;
+use ipc_tracing::{Exit, Host, Listener, Server, path_of};
 use l4sh_options::ServerOptions;
 use std::alloc::Global;
 use std::net::{Net, TcpListener, TcpStream};

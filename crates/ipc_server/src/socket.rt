@@ -1,10 +1,10 @@
 //! The socket of a connection, as the link of its ports.
 ghost use Rattle.std.specs.Prelude.{◌≡◌, ◌<◌};
 
-use crate::host::Host;
 use crate::serving::Link;
 use ipc_host::Notice;
 use ipc_session::Gate;
+use ipc_tracing::Host;
 use ipc_words::ThreadId;
 use std::fmt;
 use std::net::Shutdown;

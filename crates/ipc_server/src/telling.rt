@@ -1,7 +1,7 @@
 //! What words ask to be told: help, the version, and what is wrong with them.
 use crate::ending::ended;
-use crate::exit::Exit;
 use clap::error::ErrorKind;
+use ipc_tracing::Exit;
 use l4sh_options::{mistake_text, server_options, tell_version};
 use std::alloc::{AllocError, Global};
 use std::io;

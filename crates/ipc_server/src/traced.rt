@@ -2,15 +2,13 @@
 ghost use Rattle.std.specs.Prelude.{◌≡◌, ◌<◌};
 
 use crate::ending::{Ending, ending_of};
-use crate::exit::Exit;
-use crate::host::Host;
 use crate::service::serve_and_close;
 use crate::services::{AllServed, Services};
 use ipc_base::{Failures, PortWrite};
 use ipc_host::SocketPort;
 use ipc_lock::Naming;
 use ipc_tracing::{
-    FilePort, Server, ToldFault, Trace, TraceDisk, TraceFault, TraceFiles, start_of,
+    Exit, FilePort, Host, Server, ToldFault, Trace, TraceDisk, TraceFault, TraceFiles, start_of,
 };
 use l4sh_options::ServerOptions;
 use std::fs::File;

@@ -3,7 +3,7 @@ use crate::server::Server;
 use crate::trace_disk::TraceDisk;
 use ipc_host::SocketPort;
 use ipc_lock::Naming;
-use l4sh_times::Start;
+use l4sh_state::Start;
 use std::alloc::{AllocError, Global};
 use std::io;
 use std::io::Write;

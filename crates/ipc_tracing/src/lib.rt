@@ -1,13 +1,16 @@
-//! The trace of a server while it serves: its files, and those who follow it. And what all workers
-//! share, which the worker of the trace is one of.
+//! What the workers of a server share: the kernel, the clock, the paths and the connections. And
+//! the worker of the trace: its files, and those who follow it.
 #![tactic(auto)]
 
 mod began;
+mod exit;
 mod followers;
 mod following;
+mod host;
 mod meter;
 mod part_answer;
 mod parts;
+mod paths;
 mod saying;
 mod server;
 mod shared_blocks;
@@ -18,8 +21,11 @@ mod trace_files;
 mod tracing;
 
 pub use began::{began_text, start_of};
+pub use exit::Exit;
 pub use following::follow;
+pub use host::{Bound, Host};
 pub use part_answer::answer_with_part;
+pub use paths::{Door, Listener, control, listen, path_of, remove, remove_door};
 pub use saying::{NO_MEMORY, say};
 pub use server::Server;
 pub use shared_blocks::SharedBlocks;

@@ -13,7 +13,7 @@ use ipc_base::{Failures, PortWrite, WritePort};
 use ipc_host::SocketPort;
 use ipc_lock::Naming;
 use l4sh_options::ServerOptions;
-use l4sh_times::Start;
+use l4sh_state::Start;
 use std::alloc::{AllocError, Global};
 use std::fs::File;
 use std::io;

@@ -4,7 +4,7 @@ use ipc_base::{MemoryPort, PortWrite};
 use ipc_shell::put;
 use l4sh_files::{Ending, exit_alone, no_time, start_in, told};
 use l4sh_look::Exit;
-use l4sh_times::{Times, timed_state};
+use l4sh_state::{Times, timed_state};
 use std::alloc::Global;
 use std::net::Net;
 

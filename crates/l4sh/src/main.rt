@@ -8,6 +8,7 @@ ghost use Rattle.std.specs.Prelude.{◌≡◌, ◌<◌};
 
 mod answering;
 mod asking;
+mod beside;
 mod ending;
 mod following;
 mod inputs;
@@ -18,6 +19,7 @@ mod prompted;
 mod rotating;
 mod subject;
 mod talk;
+mod typed_words;
 mod watched;
 
 use clap::error::ErrorKind;

@@ -1,6 +1,8 @@
 ghost use Rattle.std.specs.Prelude.{◌≡◌, ◌≢◌, ◌+◌, ◌<◌, IfSome, OnErr, OnOk, Some};
 ghost use Rattle.l4sh.specs.Talking.{MayEndTalk};
 
+use crate::beside::words_beside;
+use crate::typed_words::{HELP, Typed, read_typed};
 use ipc_base::{PieceBuffer, PortFault, PortRead, PortWrite};
 use ipc_core::{Kernel, Limits};
 use ipc_history::{Entry, Input};
@@ -11,7 +13,6 @@ use ipc_words::ThreadId;
 use ipc_words::limits::MAX_LINE_BYTES;
 use l4sh_look::Exit;
 use l4sh_state::Spaces;
-use l4sh_talk::{HELP, Typed, read_typed, words_beside};
 use std::alloc::{AllocError, Global};
 
 /// Obeys what is typed, line by line, to the end of the reader or a request to end: for each line

@@ -1,5 +1,5 @@
 use ipc_history::{Entry, Input};
-use l4sh_times::{MomentText, Times};
+use l4sh_state::{MomentText, Times};
 
 /// When the first and the last of the entries that are counted came.
 #[derive(Clone, Copy)]

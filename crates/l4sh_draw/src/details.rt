@@ -4,7 +4,7 @@ use crate::messages::put_contents;
 use crate::words::{put_receiver, put_shown, put_waits_after, thread_at};
 use ipc_words::{Period, ThreadId};
 use l4sh_chart::{Mark, Row, Scene, ToldCall};
-use l4sh_times::Times;
+use l4sh_state::Times;
 
 /// What is told of a row where it is pointed at: its entry, its moment, its threads, and of a call
 /// the words of its message and its timeouts, a line each.

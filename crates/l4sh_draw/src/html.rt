@@ -6,7 +6,7 @@ use crate::sheet::Sheet;
 use crate::style::{PAGE_STYLE, SCRIPT, STYLE};
 use crate::svg::{put_head, put_paper};
 use l4sh_chart::Scene;
-use l4sh_times::Times;
+use l4sh_state::Times;
 use std::alloc::{AllocError, Global};
 
 /// So many rows are on a page where it is not said.

@@ -1,7 +1,7 @@
 use ipc_lines::{HexText, IdText};
 use ipc_words::ThreadId;
 use l4sh_chart::Wait;
-use l4sh_times::Times;
+use l4sh_state::Times;
 use std::alloc::{AllocError, Global};
 
 /// A length of an element: its name, and how many pixels.

@@ -9,7 +9,7 @@ use crate::strands::{Strand, end_strands, mark_strand, strands_of, turn_strands}
 use crate::text::{end_of, first_moment, last_row, moment_behind, put_copies};
 use crate::words::label_of;
 use l4sh_chart::{Column, Fold, Place, Row, Scene, turns_upto};
-use l4sh_times::Times;
+use l4sh_state::Times;
 use std::alloc::{AllocError, Global};
 
 // Heights in pixels: of a row, and of a line with the names of the threads.

@@ -5,7 +5,7 @@ use crate::lines::pages_of;
 use crate::sheet::Sheet;
 use crate::style::STYLE;
 use l4sh_chart::Scene;
-use l4sh_times::Times;
+use l4sh_state::Times;
 use std::alloc::{AllocError, Global};
 
 /// Draws a scene as one SVG picture: a column for each thread, bars where it

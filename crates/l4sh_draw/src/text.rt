@@ -8,7 +8,7 @@ use ipc_words::ThreadId;
 use l4sh_chart::{
     Column, Fold, Lane, Mark, Place, Row, Scene, lanes_of, set_alive, turn_lanes, turns_upto,
 };
-use l4sh_times::Times;
+use l4sh_state::Times;
 use std::alloc::{AllocError, Global};
 
 // Widths in characters: of the numbers, of the moments, of a lane where there are few or many, and

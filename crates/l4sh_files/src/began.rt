@@ -1,6 +1,6 @@
 //! When a trace began, where moments are told as times of day.
 use crate::ending::{Ending, told};
-use l4sh_times::{Start, Times};
+use l4sh_state::{Start, Times};
 use std::alloc::{AllocError, Global};
 use std::fs::File;
 use std::io::Read;

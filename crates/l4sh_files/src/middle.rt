@@ -11,8 +11,7 @@ use ipc_chain::{Behind, Chain, chain_behind};
 use ipc_trace::Part;
 use l4sh_look::{Exit, Look, follow_parts, past_the_end, state_text};
 use l4sh_options::FollowOptions;
-use l4sh_state::{Drops, State, drops_of, state_in};
-use l4sh_times::Times;
+use l4sh_state::{Drops, State, Times, drops_of, state_in};
 use std::alloc::{AllocError, Global};
 use std::rt::{Clock, Files};
 

@@ -15,7 +15,7 @@ use l4sh_look::{
     look_at_read, look_at_trace, options_reason,
 };
 use l4sh_options::{ChartOptions, FollowOptions};
-use l4sh_times::Times;
+use l4sh_state::Times;
 use std::alloc::Global;
 use std::rt::{Clock, Files};
 use std::sync::ledger::Ledger;

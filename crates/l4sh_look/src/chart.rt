@@ -13,8 +13,7 @@ use ipc_words::ThreadId;
 use l4sh_chart::{Emptiness, Scene, SceneMaker, Selection};
 use l4sh_draw::{draw_html, draw_svg, draw_text};
 use l4sh_options::ChartOptions;
-use l4sh_state::read_threads;
-use l4sh_times::Times;
+use l4sh_state::{Times, read_threads};
 use std::alloc::{AllocError, Global};
 
 /// Draws the trace of a reader as a sequence chart and prints it, over the whole lines where the

@@ -9,7 +9,7 @@ use ipc_base::{PortRead, PortWrite};
 use ipc_history::Entry;
 use ipc_trace::{EntrySink, TraceEnd, TraceVersion, read_entries};
 use l4sh_count::{CountFault, Counter};
-use l4sh_times::Times;
+use l4sh_state::Times;
 use std::alloc::{AllocError, Global};
 
 /// The counter, as what the entries of a trace go to.

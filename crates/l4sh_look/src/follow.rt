@@ -1,15 +1,15 @@
 ghost use Rattle.std.specs.Prelude.{◌≡◌, ◌≢◌, ◌+◌, ◌<◌, IsSome, Some};
 
 use crate::exit::Exit;
+use crate::follower::Follower;
+use crate::selection::{Selection, read_label};
 use ipc_base::{PieceBuffer, PortRead, PortWrite};
 use ipc_history::Entry;
 use ipc_shell::put;
 use ipc_trace::{LineEnd, LineFault, Part, TraceLines, next_line};
 use ipc_words::ThreadId;
-use l4sh_follow::{Follower, Selection, read_label};
 use l4sh_options::FollowOptions;
-use l4sh_state::read_threads;
-use l4sh_times::Times;
+use l4sh_state::{Times, read_threads};
 use std::alloc::Global;
 
 /// Tells the entries of the trace of a reader in words, each as soon as its line is there, to the

@@ -13,8 +13,7 @@ use ipc_base::{PortRead, PortWrite};
 use ipc_history::Entry;
 use ipc_trace::{TraceEnd, TraceVersion, read_entries};
 use ipc_words::limits::MAX_CHART_ENTRY;
-use l4sh_state::{Drops, State, state_in, tell_state};
-use l4sh_times::{Times, timed_state};
+use l4sh_state::{Drops, State, Times, state_in, tell_state, timed_state};
 use std::alloc::{AllocError, Global};
 
 /// The deliveries to anybody else are noted of the entries that are looked at.

@@ -17,8 +17,7 @@ use ipc_history::Entry;
 use ipc_shell::{put, script_of};
 use ipc_trace::{TraceEnd, TraceRead, TraceVersion, read_trace};
 use l4sh_count::{CountFault, Counts, Moments, Span, counts_of, json_of, tell_counts};
-use l4sh_state::{State, drops_of, state_of};
-use l4sh_times::Times;
+use l4sh_state::{State, Times, drops_of, state_of};
 use std::alloc::{AllocError, Global};
 
 /// What is asked of a trace.

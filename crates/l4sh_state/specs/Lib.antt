@@ -4,3 +4,4 @@ pub mod Waits
 pub mod WaitsFor
 pub mod Propagation
 pub mod Lines
+pub mod Times

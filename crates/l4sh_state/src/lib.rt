@@ -1,6 +1,6 @@
 //! What a history says of each live thread: what it does, for whom it waits, and each deadlock. And
 //! what the views of a trace share: which threads live and in which space, as whom a message is
-//! shown, which threads were asked for, and why a phase failed.
+//! shown, which threads were asked for, why a phase failed, and moments as times of day.
 #![tactic(auto)]
 
 mod building;
@@ -10,9 +10,12 @@ mod doing;
 mod drops;
 mod lists;
 mod spaces;
+mod start;
 mod state;
 mod telling;
 mod threads;
+mod timed;
+mod times;
 mod waits;
 
 pub use building::slots_of;
@@ -22,6 +25,9 @@ pub use doing::{Doing, doing_of};
 pub use drops::{Dropped, Drops, drops_of};
 pub use lists::read_threads;
 pub use spaces::{ShownAs, Spaces};
+pub use start::Start;
 pub use state::{State, state_in, state_of};
 pub use telling::tell_state;
+pub use timed::timed_state;
+pub use times::{MomentText, Times};
 pub use waits::{course_of, waits_of};

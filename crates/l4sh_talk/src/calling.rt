@@ -67,7 +67,7 @@ const FIELDS: &str =
     "to=ID, from=ID, send=TIME, receive=TIME, label=N, words=N,N, as=ID, buffers=N,N or \"a text\"";
 
 /// What is wanted of the caller, of a receiver, and of a FromSpecifier.
-pub(crate) const THREAD: &str = "a thread, as 1.1, or 1 for 1.1";
+pub const THREAD: &str = "a thread, as 1.1, or 1 for 1.1";
 
 const FROM: &str = "any, local, or a thread, as 1.1, or 1 for 1.1";
 
@@ -89,7 +89,7 @@ fn named<'a>(names: &[(&'static str, Name)], word: &'a [u8]) -> Option<Named<'a>
 
 /// Why typed words make no call.
 #[derive(Clone, Copy)]
-pub(crate) enum CallFault {
+pub enum CallFault {
     /// The word of this place is none of its fields.
     Word(usize, WordFault),
     /// The word of this place is of a phase that the call does not have.
@@ -105,7 +105,7 @@ pub(crate) enum CallFault {
 /// The line of a call that is typed as its caller and then `to=`, `from=`, `send=`, `receive=`,
 /// `label=`, `words=`, `as=`, `buffers=` and texts between quotation marks, in any order, each but
 /// words and texts at most once. An `Err` inside is what is wrong.
-pub(crate) fn call_line(
+pub fn call_line(
     alloc: Global,
     words: &[Vec<u8>],
 ) -> Result<Result<String, CallFault>, AllocError> {

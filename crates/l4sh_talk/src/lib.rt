@@ -1,10 +1,9 @@
-//! What people type to a shell, and the exact line of a script that it stands for. And a thread of
-//! a live server, from a keyboard or a pipe: what people type, the call that is made of it, and
-//! what is said to its answer.
+//! The line of a call that people type, field by field. And a thread of a live server, from a
+//! keyboard or a pipe: what people type, the call that is made of it, and what is said to its
+//! answer.
 #![tactic(auto)]
 
 mod asking;
-mod beside;
 mod calling;
 mod ending;
 mod faults;
@@ -16,13 +15,12 @@ mod said;
 mod session;
 mod spelling;
 mod telling;
-mod typed_words;
 mod versions;
 
-pub use beside::{tell_error, words_beside};
+pub use calling::{CallFault, THREAD, call_line};
 pub use ending::Ending;
 pub use faults::{BadWord, CONTROL, LABEL, NUMBERS, ONCE, SIZES, WordFault, comes_again};
 pub use quoting::words_of;
 pub use session::talk_to;
 pub use spelling::{read_control, read_thread};
-pub use typed_words::{HELP, Typed, read_typed};
+pub use telling::tell_error;

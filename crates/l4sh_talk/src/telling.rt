@@ -5,12 +5,12 @@ ghost use Rattle.l4sh_state.specs.Lines.{IsLine};
 
 use crate::request::{Reply, Request, version_of};
 use crate::said::Said;
-use crate::tell_error;
 use crate::versions::{Found, is_missing};
 use ipc_client::{Answer, Failure, Received, Registers};
 use ipc_frame::{IpcrFrame, Placed};
-use ipc_words::{Control, ErrorKind, IpcError, ThreadId};
+use ipc_words::{Control, ErrorKind, IpcError, Phase, ThreadId};
 use l4sh_explain::meaning_behind;
+use l4sh_state::cause_of;
 use std::alloc::{AllocError, Global};
 
 /// The most bytes of a string that are shown as text.
@@ -257,4 +257,13 @@ fn put_text(said: &mut Said, string: &[u8]) {
     said.put(", \"");
     said.bytes(string);
     said.put("\"");
+}
+
+/// Which phase failed, and why.
+pub fn tell_error(text: &mut String, error: IpcError) -> Result<(), AllocError> {
+    text.push_str(match error.phase() {
+        Phase::Send => "the send phase failed: ",
+        Phase::Receive => "the receive phase failed: ",
+    })?;
+    text.push_str(cause_of(error))
 }

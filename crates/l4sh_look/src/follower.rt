@@ -1,0 +1,228 @@
+ghost use Rattle.std.specs.Prelude.{◌≡◌, option_map};
+ghost use Rattle.ipc_words.specs.MsgTag.{label_of};
+ghost use Rattle.l4sh_look.specs.Following.{about, about_call, about_output, about_pair, about_phases, alone};
+ghost use Rattle.l4sh_look.specs.Following.{call_at, call_of_note, last_calls};
+
+use crate::notes::{Note, Notes};
+use crate::selection::{Selection, Subject};
+use crate::telling::tell_entry;
+use ipc_history::{Call, Entry, Input, Output};
+use ipc_words::ThreadId;
+use l4sh_state::Times;
+use std::alloc::{AllocError, Global};
+use std::marker::Model;
+
+/// The entries of a history so far, as far as the next one speaks of them. A contract sees what is
+/// to be told, and the entries.
+#[derive(Drop)]
+pub struct Follower {
+    alloc: Global,
+    selection: Selection,
+    times: Times,
+    notes: Notes,
+    // the moment, in microseconds
+    moment: u64,
+    // how many entries have come
+    number: u64,
+}
+
+impl Model for Follower {
+    ghost use Rattle.l4sh_look.specs.Following.{Followed};
+
+    ghost Value = { Followed };
+
+    ghost view = { λ f. record { selection = f.selection; past = f.notes } };
+}
+
+impl Follower {
+    ghost use Rattle.std.specs.Prelude.{◌≡◌, ◌++◌, ◌∷◌, [], IfOk, IfSome, OnOk, is_some};
+    ghost use Rattle.std.specs.String.{string_bytes};
+    ghost use Rattle.l4sh_state.specs.Lines.{IsLine};
+    ghost use Rattle.l4sh_look.specs.Following.{about, is_told_behind, last_calls, tells_of};
+
+    /// A history of no entry, of which this is to be told, with its moments by these times.
+    pub fn new(alloc: Global, selection: Selection, times: Times) -> Follower
+        ensures { result ≡ record { selection = selection; past = [] } }
+    {
+        Follower {
+            alloc,
+            selection,
+            times,
+            notes: Notes::new(alloc),
+            moment: 0,
+            number: 0,
+        }
+    }
+
+    /// Takes note of what was before the first entry: the moment, in microseconds, and the entries
+    /// that are kept. They have no number.
+    ///
+    /// # Errors
+    ///
+    /// There is no memory.
+    pub fn begin(&mut self, moment: u64, kept: &[Entry]) -> Result<(), AllocError>
+        ensures selection { self.new.selection ≡ self.old.selection }
+        ensures past { OnOk result (self.new.past ≡ self.old.past ++ kept.now) }
+    {
+        self.notes.note_all(kept)?;
+        self.moment = moment;
+        Ok(())
+    }
+
+    /// The next entry in words, as a line with its newline: its number from 1, the moment, and what
+    /// it says. None where it is not to be told, as a moment by itself, or where it names a call
+    /// that never came.
+    ///
+    /// # Errors
+    ///
+    /// There is no memory.
+    pub fn tell(&mut self, entry: &Entry) -> Result<Option<String>, AllocError>
+        ensures selection { self.new.selection ≡ self.old.selection }
+        ensures past { OnOk result (self.new.past ≡ self.old.past ++ entry.now ∷ []) }
+        ensures told { IfOk result (λ told. is_some told
+            ≡ is_told_behind self.old.selection self.old.past entry.now) }
+        ensures line { IfOk result (λ told. IfSome told (λ text. IsLine (string_bytes text))) }
+    {
+        self.note(entry)?;
+        if self.tells(entry) {
+            Ok(Some(self.line(entry)?))
+        } else {
+            Ok(None)
+        }
+    }
+
+    // Whether an entry that was noted is to be told.
+    fn tells(&self, entry: &Entry) -> bool
+        ensures { result ≡ tells_of self.now.selection (about (last_calls self.now.past) entry.now) }
+    {
+        match subject_of(entry, &self.notes) {
+            Some(subject) => self.selection.tells(&subject),
+            None => false,
+        }
+    }
+
+    // Takes note of the next entry.
+    fn note(&mut self, entry: &Entry) -> Result<(), AllocError>
+        ensures selection { self.new.selection ≡ self.old.selection }
+        ensures past { OnOk result (self.new.past ≡ self.old.past ++ entry.now ∷ []) }
+    {
+        self.number = self.number.saturating_add(1);
+        if let Entry::Given(Input::At(moment)) = entry {
+            self.moment = *moment;
+        }
+        self.notes.note(entry)
+    }
+
+    // The line of an entry that was noted.
+    fn line(&self, entry: &Entry) -> Result<String, AllocError>
+        ensures { IfOk result (λ text. IsLine (string_bytes text)) }
+    {
+        let mut text = String::new(self.alloc);
+        let number = self.number;
+        write!(text, "{number}  {}  ", self.times.moment(self.moment))?;
+        tell_entry(&mut text, entry, &self.notes)?;
+        text.push_str("\n")?;
+        Ok(text)
+    }
+}
+
+// What an entry that was noted is about. None for a moment, and for a call that never came.
+fn subject_of(entry: &Entry, notes: &Notes) -> Option<Subject>
+    ensures { result ≡ about (last_calls notes.now) entry.now }
+{
+    match entry {
+        Entry::Given(Input::At(_)) => None,
+        Entry::Given(Input::Opened(thread, _)) => Some(alone(*thread)),
+        Entry::Given(Input::Broke(thread)) => Some(alone(*thread)),
+        Entry::Given(Input::Exreg(thread, other, _)) => Some(Subject {
+            other: *other,
+            ..alone(*thread)
+        }),
+        Entry::Given(Input::Called(_, caller, call)) => Some(of_entered(*caller, call.call())),
+        Entry::Given(Input::Moved(number, _)) => of_number(notes, *number),
+        Entry::Written(output) => subject_of_output(*output, notes),
+    }
+}
+
+fn subject_of_output(output: Output, notes: &Notes) -> Option<Subject>
+    ensures { result ≡ about_output (last_calls notes.now) output }
+{
+    match output {
+        Output::Began(sending, receiving) | Output::Ended(sending, receiving) => {
+            between(notes.get(sending), notes.get(receiving), false)
+        }
+        Output::Overflowed(sending, receiving, _) | Output::Aborted(sending, receiving, _) => {
+            between(notes.get(sending), notes.get(receiving), true)
+        }
+        Output::Turned(number, _) => of_number(notes, number),
+        Output::Failed(number, _) => match notes.get(number) {
+            Some(call) => Some(Subject {
+                is_failure: true,
+                ..of_call(&call)
+            }),
+            None => None,
+        },
+    }
+}
+
+fn of_entered(caller: ThreadId, call: &Call) -> Subject
+    ensures { result ≡ about_phases caller call.now.to call.now.from (label_of call.now.tag) }
+{
+    of_phases(caller, call.to(), call.from(), call.tag().label())
+}
+
+fn alone(thread: ThreadId) -> Subject
+    ensures { result ≡ alone thread }
+{
+    Subject {
+        thread,
+        other: thread,
+        label: None,
+        is_failure: false,
+    }
+}
+
+// A call of a number.
+fn of_number(notes: &Notes, number: u64) -> Option<Subject>
+    ensures { result ≡ option_map about_call (call_at (last_calls notes.now) number) }
+{
+    match notes.get(number) {
+        Some(call) => Some(of_call(&call)),
+        None => None,
+    }
+}
+
+fn of_call(call: &Note) -> Subject
+    ensures { result ≡ about_call (call_of_note call.now) }
+{
+    of_phases(call.caller, call.to, call.from, call.label)
+}
+
+// A call: its caller, and the receiver of its send phase, or the FromSpecifier where it has none.
+fn of_phases(caller: ThreadId, to: ThreadId, from: ThreadId, label: u64) -> Subject
+    ensures { result ≡ about_phases caller to from label }
+{
+    let sends = to != ThreadId::NILTHREAD;
+    Subject {
+        thread: caller,
+        other: if sends { to } else { from },
+        label: if sends { Some(label) } else { None },
+        is_failure: false,
+    }
+}
+
+// A transfer: the callers of its two calls.
+fn between(sending: Option<Note>, receiving: Option<Note>, is_failure: bool) -> Option<Subject>
+    ensures { result ≡ about_pair is_failure (option_map call_of_note sending)
+        (option_map call_of_note receiving) }
+{
+    match (sending, receiving) {
+        (Some(sending), Some(receiving)) => Some(Subject {
+            thread: sending.caller,
+            other: receiving.caller,
+            label: Some(sending.label),
+            is_failure,
+        }),
+        _ => None,
+    }
+}

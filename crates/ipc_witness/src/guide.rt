@@ -214,7 +214,7 @@ impl<'a> Guide<'a> {
             return self.fill(slots);
         }
         let wanted = self.wanted;
-        let Some(Coming { caller, from, call }) = coming(slots, wanted, receipt.sending) else {
+        let Some(Arrival { caller, from, call }) = coming(slots, wanted, receipt.sending) else {
             return Ok(Turn::Lost);
         };
         if is_free(slots, receipt.thread) {
@@ -305,7 +305,7 @@ pub(crate) fn live(slots: &Slots, number: usize) -> Option<ThreadId> {
 
 /// A message that a thread is to wait for.
 #[derive(Clone, Copy)]
-struct Coming<'a> {
+struct Arrival<'a> {
     /// Who is to be live where it is sent: its sender, or in whose name it is passed on.
     caller: ThreadId,
     /// From whom it comes.
@@ -315,16 +315,16 @@ struct Coming<'a> {
 }
 
 /// The message of the kept call at a place, or that brings the kept `turned` entry there.
-fn coming<'a>(slots: &Slots, wanted: Wanted<'a>, place: usize) -> Option<Coming<'a>> {
+fn coming<'a>(slots: &Slots, wanted: Wanted<'a>, place: usize) -> Option<Arrival<'a>> {
     match wanted.kept.get(place)? {
-        Entry::Given(Input::Called(_, caller, call)) => Some(Coming {
+        Entry::Given(Input::Called(_, caller, call)) => Some(Arrival {
             caller: *caller,
             from: if_live(slots, *caller, shown(slots, *caller, call.call())),
             call: Some(call.call()),
         }),
         Entry::Written(Output::Turned(number, _)) => {
             let caller = wanted.caller(*number)?;
-            Some(Coming {
+            Some(Arrival {
                 caller,
                 from: if_live(slots, caller, caller),
                 call: None,

@@ -1,7 +1,7 @@
 // How a history is to end: what a part says of it.
 use ipc_compact::Base;
 use ipc_history::{Entry, Input, Output};
-use ipc_words::{ErrorKind, ThreadId};
+use ipc_words::{ErrorKind, Period, ThreadId};
 
 /// The base and the kept entries of a part.
 #[derive(Clone, Copy)]
@@ -194,15 +194,21 @@ impl Wanted<'_> {
         None
     }
 
-    /// The partner for lack of whom a kept call fails at once, before its send phase or behind it.
+    /// The partner for lack of whom a kept call fails at once, before its send phase or behind it,
+    /// where it would not wait until that one ends.
     pub fn lacked(&self, number: u64) -> Option<ThreadId> {
         let place = self.lack_of(number)?;
         for at in 0..self.kept.len() {
             if let Some((_, call)) = self.kept[at].call(number) {
-                return if at == place && call.to() != ThreadId::NILTHREAD {
-                    Some(call.to())
+                let (partner, period) = if at == place && call.to() != ThreadId::NILTHREAD {
+                    (call.to(), call.send_period())
                 } else {
-                    Some(call.from())
+                    (call.from(), call.receive_period())
+                };
+                return if period == Period::ZERO {
+                    Some(partner)
+                } else {
+                    None
                 };
             }
         }

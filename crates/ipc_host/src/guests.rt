@@ -270,16 +270,16 @@ impl Guests {
         table
     }
 
-    /// The connection, which this is, is a thread of a space from here on.
+    /// The connection, whose socket has this inode, is a thread of a space from here on.
     pub fn greet<R: Wait>(
         &self,
         rt: &R,
         ticket: u64,
         thread: ThreadId,
         space: u64,
-        stream: &UnixStream,
+        inode: Option<u64>,
     ) {
-        let socket = ThreadSocket::new(self.alloc, thread, space, stream);
+        let socket = ThreadSocket::new(thread, space, inode);
         let mut table = self.table.lock(rt);
         table.greet(ticket, socket);
         drop(table);

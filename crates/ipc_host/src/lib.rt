@@ -35,4 +35,4 @@ pub use ready::Readiness;
 pub use signals::{have_come, may_be_blocked};
 pub use socket::SocketPort;
 pub use status::{ProcessStatus, field, resident};
-pub use thread_socket::ThreadSocket;
+pub use thread_socket::{ThreadSocket, inode_of};

@@ -18,12 +18,12 @@ pub struct ThreadSocket {
 }
 
 impl ThreadSocket {
-    /// That of a thread whose connection this is.
-    pub fn new(alloc: Global, thread: ThreadId, space: u64, stream: &UnixStream) -> ThreadSocket {
+    /// That of a thread whose connection has this inode.
+    pub fn new(thread: ThreadId, space: u64, inode: Option<u64>) -> ThreadSocket {
         ThreadSocket {
             thread,
             space,
-            inode: inode_of(alloc, stream),
+            inode,
         }
     }
 }
@@ -39,8 +39,9 @@ impl fmt::Display for ThreadSocket {
     }
 }
 
-/// The inode of a socket, where the system tells it.
-fn inode_of(alloc: Global, stream: &UnixStream) -> Option<u64> {
+/// The inode of a socket, where the system tells it. A link is read through 12 KiB of stack, so no
+/// worker of a connection does it.
+pub fn inode_of(alloc: Global, stream: &UnixStream) -> Option<u64> {
     let path = format!(in alloc; "/proc/self/fd/{}", stream.as_raw_fd()).ok()?;
     let mut link = [0u8; LINK_BYTES];
     let count = usize::try_from(os::readlink(path.as_bytes(), &mut link)).ok()?;

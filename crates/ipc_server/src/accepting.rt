@@ -14,7 +14,7 @@ use crate::services::{AllServed, Services};
 use crate::serving::{Ports, serve_connection, start_worker};
 use crate::socket::{Guest, SocketGate};
 use crate::working::{Alarm, OverGate, Worker};
-use ipc_host::{Admission, EagerStream, Notice, SocketPort};
+use ipc_host::{Admission, EagerStream, Notice, SocketPort, inode_of};
 use ipc_lock::Naming;
 use ipc_session::{Open, move_loop, tick_loop};
 use std::io::ErrorKind;
@@ -187,11 +187,11 @@ where
             match listener.door.accept() {
                 Ok(stream) => {
                     taken = taken.saturating_add(1);
-                    let space = listener.space;
-                    if let Some((ticket, stream)) = admit(server, host, space, stream) {
+                    if let Some(newcomer) = admit(server, host, listener.space, stream) {
+                        let ticket = newcomer.ticket;
                         let started = start_worker(
                             scope,
-                            move || serve_guest(server, host, services, space, ticket, stream),
+                            move || serve_guest(server, host, services, newcomer),
                         );
                         if let Err(error) = started {
                             let_go(rt, host, ticket, error);
@@ -204,17 +204,33 @@ where
     });
 }
 
-/// Takes a connection in, once there is room for it, and answers its ticket. None: the server
-/// stops, or there is no memory; the connection is then closed.
+/// A connection that was taken in.
+#[derive(Drop)]
+struct Newcomer {
+    space: u64,
+    ticket: u64,
+    stream: Arc<UnixStream>,
+    /// The inode of its socket, where the system tells it.
+    inode: Option<u64>,
+}
+
+/// Takes a connection in, once there is room for it. None: the server stops, or there is no memory;
+/// the connection is then closed.
 fn admit<C: Naming, T: Ledger, R: Wait + Clock + Eprint>(
     server: &Server<'_, C, T, SocketPort, R>,
     host: &Host,
     space: u64,
     stream: UnixStream,
-) -> Option<(u64, Arc<UnixStream>)> {
+) -> Option<Newcomer> {
     let stream = Arc::new(server.alloc, stream).ok()?;
     let ticket = ticket_of(server.rt, host, space, &stream)?;
-    Some((ticket, stream))
+    let inode = inode_of(server.alloc, &stream);
+    Some(Newcomer {
+        space,
+        ticket,
+        stream,
+        inode,
+    })
 }
 
 /// Waits for room for a connection, tells it where that takes long, and answers its ticket. None:
@@ -284,21 +300,26 @@ fn serve_guest<C, T, R>(
     server: &Server<'_, C, T, SocketPort, R>,
     host: &Host,
     services: &Mutex<Services<C, SocketPort>>,
-    space: u64,
-    ticket: u64,
-    stream: Arc<UnixStream>,
+    newcomer: Newcomer,
 )
 where
     C: Naming + Send,
     T: Ledger + Send,
     R: Threads + Wait + Clock + Eprint + Sync,
 {
+    let Newcomer {
+        space,
+        ticket,
+        stream,
+        inode,
+    } = newcomer;
     let soon = AtomicBool::new(false);
     let guest = Guest {
         rt: server.rt,
         host,
         space,
         ticket,
+        inode,
         soon: &soon,
     };
     if let Ok(kept) = Arc::try_clone(&stream) {

@@ -90,7 +90,9 @@ fn note<G: Link>(link: &G, thread: &mut Option<ThreadId>, told: Told, entered: E
     }
 }
 
-/// Says on a link what a client is told by REFUSED or FAULT, which are the same in each version.
+/// Says on a link what a client is told by REFUSED or FAULT, which are the same in each version. Few
+/// are, and so it is never inlined.
+#[inline(never)]
 fn say<G: Link>(link: &G, told: Told, thread: Option<ThreadId>) {
     match reply(WireVersion::One, told) {
         Some(Frame::Refused(number)) => link.tells(Notice::Refused(number), thread),

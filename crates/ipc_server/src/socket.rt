@@ -20,6 +20,8 @@ pub struct Guest<'a, R: Wait + Eprint> {
     pub(crate) host: &'a Host,
     pub(crate) space: u64,
     pub(crate) ticket: u64,
+    /// The inode of its socket, where the system tells it.
+    pub(crate) inode: Option<u64>,
     /// Whether its next frame may come soon.
     pub(crate) soon: &'a AtomicBool,
 }
@@ -85,17 +87,20 @@ impl<R: Wait + Eprint> Link for SocketGate<'_, R> {
         let _ = self.stream.shutdown(Shutdown::Both);
     }
 
+    // once for each connection, and so never inlined
+    #[inline(never)]
     fn welcomes(&self, thread: ThreadId) {
         let Guest {
             rt,
             ticket,
             space,
+            inode,
             ..
         } = *self.guest;
         self.guest
             .host
             .guests
-            .greet(rt, ticket, thread, space, self.stream);
+            .greet(rt, ticket, thread, space, inode);
     }
 
     fn sees_outcome(&self) {

@@ -140,7 +140,9 @@ impl CallDecoder {
         }
     }
 
-    /// The same of any piece, by way of the bytes that are held.
+    /// The same of any piece, by way of the bytes that are held. Few frames come so, and its frame
+    /// is large: it is never inlined.
+    #[inline(never)]
     fn take_part<B: Blocks>(
         &mut self,
         piece: &[u8],

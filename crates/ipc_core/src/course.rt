@@ -34,7 +34,7 @@ use ipc_compact::{Base, BaseRoom, Keeping, Partners};
 use ipc_desks::Desks;
 use ipc_history::{Entries, Entry, History, Output};
 use ipc_threads::Slots;
-use ipc_waits::{Waiting, is_in_receive_phase, is_in_send_phase, next_block};
+use ipc_waits::{Waiting, is_in_receive_phase, is_in_send_phase};
 use ipc_words::limits::TABLE_SLOTS;
 use ipc_words::{Control, ThreadId};
 use std::alloc::AllocError;
@@ -313,7 +313,7 @@ impl Course {
         ensures some { IfSome result (λ next. (next_moving self.now.entries ≡ Some next.0)
             × (next.1 ≡ block_of self.now.entries next.0)) }
     {
-        next_block(self.waiting.slots())
+        self.waiting.next_block()
     }
 
     /// What ExchangeRegisters answers to a live thread about a target.

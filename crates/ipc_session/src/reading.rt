@@ -208,7 +208,9 @@ fn read_turn<P: PortRead, K: KernelPort, B: Blocks>(
     (turned, count >= SHORT)
 }
 
-/// The input is at its end: inside a frame that is a fault.
+/// The input is at its end: inside a frame that is a fault. Once for each connection, and so never
+/// inlined.
+#[inline(never)]
 fn end_input<K: KernelPort>(kernel_port: &mut K, decoder: &mut CallDecoder, stage: Stage) -> Ending
     requires { stage ≢ Stage.Finished }
     ensures calls { (log : Log) (bytes left : List ℕ) (input : Option (List ℕ))

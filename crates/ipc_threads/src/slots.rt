@@ -185,7 +185,8 @@ impl Slots {
 
     /// Takes note of the next entry of the history; says which slots that changed. Where the entry
     /// enters a call, memory may hold it at the hint: of that nothing is said, and a wrong one
-    /// costs time alone.
+    /// costs time alone. It has a large frame, so it is never inlined.
+    #[inline(never)]
     pub fn note(&mut self, entry: &Entry, hint: usize) -> Changes
         requires { Follows self.old.past entry.now }
         ensures past { self.new.past ≡ self.old.past ++ entry.now ∷ [] }

@@ -37,3 +37,4 @@ pub mod Passing
 pub mod Exchanged
 pub mod RestLemmas
 pub mod Fronts
+pub mod Transfers

@@ -28,5 +28,4 @@ pub use queue::{Queue, Wait};
 pub use queues::Waits;
 pub use read::{follows, next_output};
 pub use resting::waits;
-pub use transfers::next_block;
 pub use waiting::Waiting;

@@ -204,6 +204,13 @@ impl Queue {
         );
     }
 
+    /// All waits.
+    pub(crate) fn all(&self) -> &[Wait]
+        ensures { result.now ≡ self.now }
+    {
+        self.waits.as_slice()
+    }
+
     /// The waits under a key, by rising numbers.
     pub fn under(&self, key: u64) -> &[Wait]
         ensures value { result.now ≡ under key self.now }

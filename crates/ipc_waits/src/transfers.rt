@@ -1,4 +1,4 @@
-ghost use Rattle.std.specs.Prelude.{◌≡◌, ◌-◌, ◌↔◌, min, Some, None, IsNone, IfSome};
+ghost use Rattle.std.specs.Prelude.{◌≡◌, ◌-◌, min, Some};
 ghost use Rattle.ipc_words.specs.Limits.{block_bytes};
 ghost use Rattle.ipc_history.specs.Blocks.{block_of};
 ghost use Rattle.ipc_history.specs.Legal.{next_moving};
@@ -10,7 +10,7 @@ use ipc_threads::Slots;
 use ipc_words::limits::BLOCK_BYTES;
 
 /// The call that an output names first.
-fn first_number(output: &Output) -> u64
+pub(crate) fn first_number(output: &Output) -> u64
     ensures { result ≡ first_number output.now }
 {
     match output {
@@ -51,16 +51,4 @@ pub(crate) fn block_of(slots: &Slots, number: u64) -> u64
         unreachable!()
     };
     block(call.size, call.moved)
-}
-
-/// The least call in transfer, and how many of its bytes are copied next.
-pub fn next_block(slots: &Slots) -> Option<(u64, u64)>
-    ensures none { IsNone result ↔ (next_moving slots.now.past ≡ None) }
-    ensures some { IfSome result (λ next. (next_moving slots.now.past ≡ Some next.0)
-        × (next.1 ≡ block_of slots.now.past next.0)) }
-{
-    match next_moving(slots) {
-        Some(number) => Some((number, block_of(slots, number))),
-        None => None,
-    }
 }

@@ -11,6 +11,7 @@ ghost use Rattle.ipc_waits.specs.Following.{CanFollow, FollowsChange};
 ghost use Rattle.ipc_waits.specs.Queues.{is_until};
 ghost use Rattle.ipc_waits.specs.Waiting.{IsTouched, IsWaiting};
 
+mod copying;
 mod exchange;
 mod passing;
 mod resting;

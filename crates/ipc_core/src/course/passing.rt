@@ -19,7 +19,9 @@ use ipc_threads::Pair;
 use ipc_waits::Waiting;
 
 impl Course {
-    /// Appends the next output, and with a transfer of words its end. Takes no memory.
+    /// Appends the next output, and with a transfer of words its end. Takes no memory. It has a
+    /// large frame, so it is never inlined: most commands need none of it.
+    #[inline(never)]
     pub(super) fn write(&mut self, output: Output)
         requires legal { Legal self.old.entries }
         requires next { next_output self.old.entries ≡ Some output }

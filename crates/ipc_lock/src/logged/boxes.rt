@@ -42,7 +42,9 @@ fn port_of<C: Naming, P: PenPort + Drop>(
 
 impl<C: Naming, T: Ledger, P: PenPort + Drop> Logged<C, T, P> {
     /// A number that no connection had, and an empty box with the pen of its port: one that was
-    /// given back, else a new one. With them goes what the connection knows of the log.
+    /// given back, else a new one. With them goes what the connection knows of the log. Once for
+    /// each connection, and so never inlined.
+    #[inline(never)]
     pub(crate) fn connect(
         &mut self,
         log: &Log<Event, C>,

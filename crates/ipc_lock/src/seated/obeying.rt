@@ -57,6 +57,8 @@ impl<C: Ledger, T: Ledger> Locked<C, T> {
         self.note_finished(finished)
     }
 
+    /// Obeys a command by the seat. Each but an open has a frame of its own, so that a connection
+    /// that only says HELLO touches none of them.
     #[tactic(auto, unfolding(crate::specs::Acting::StepDoes, crate::specs::Acting::AnswersStep), using(crate::proofs::Steps::still))]
     fn obey(&mut self, seat: Option<CallSeat<C>>, command: Command) -> Answered<C, T>
         ensures does { StepDoes self.old.kernel seat command result.answer self.new.kernel }
@@ -101,6 +103,7 @@ impl<C: Ledger, T: Ledger> Locked<C, T> {
         }
     }
 
+    #[inline(never)]
     #[tactic(auto, unfolding(crate::specs::Acting::StepDoes, crate::specs::Acting::AnswersStep), using(crate::proofs::Steps::still))]
     fn obey_enter(
         &mut self,
@@ -123,6 +126,7 @@ impl<C: Ledger, T: Ledger> Locked<C, T> {
         }
     }
 
+    #[inline(never)]
     #[tactic(auto, unfolding(crate::specs::Acting::StepDoes, crate::specs::Acting::AnswersStep), using(crate::proofs::Steps::still))]
     fn obey_exreg(
         &mut self,
@@ -151,6 +155,7 @@ impl<C: Ledger, T: Ledger> Locked<C, T> {
         }
     }
 
+    #[inline(never)]
     #[tactic(auto, unfolding(crate::specs::Acting::StepDoes, crate::specs::Acting::AnswersStep), using(crate::proofs::Steps::still))]
     fn obey_broke(&mut self, seat: Option<CallSeat<C>>, thread: ThreadId) -> Answered<C, T>
         ensures does { StepDoes self.old.kernel seat (command.Broke thread)
@@ -166,6 +171,7 @@ impl<C: Ledger, T: Ledger> Locked<C, T> {
         }
     }
 
+    #[inline(never)]
     #[tactic(auto, unfolding(crate::specs::Acting::StepDoes, crate::specs::Acting::AnswersStep), using(crate::proofs::Steps::still))]
     fn obey_at(&mut self, seat: Option<CallSeat<C>>, reading: u64) -> Answered<C, T>
         ensures does { StepDoes self.old.kernel seat (command.At reading)
@@ -179,6 +185,7 @@ impl<C: Ledger, T: Ledger> Locked<C, T> {
         Answered::new(Answer::Done, seat)
     }
 
+    #[inline(never)]
     #[tactic(auto, unfolding(crate::specs::Acting::StepDoes, crate::specs::Acting::AnswersStep), using(crate::proofs::Steps::still))]
     fn obey_advance(&mut self, seat: Option<CallSeat<C>>) -> Answered<C, T>
         ensures does { StepDoes self.old.kernel seat command.Advance result.answer self.new.kernel }

@@ -56,7 +56,8 @@ impl<C: Naming, T: Ledger, P: PenPort + Drop> SharedKernel<C, T, P> {
     }
 
     /// Copies blocks of what is in transfer until nothing is. Where that are many the mover goes
-    /// on.
+    /// on. It has a large frame, so it is never inlined: words need none of it.
+    #[inline(never)]
     pub(super) fn move_blocks<R: Wait>(&self, rt: &R, now: u64)
         ensures moves { MovesAll C P now }
     {

@@ -37,4 +37,4 @@ pub mod Passing
 pub mod Exchanged
 pub mod RestLemmas
 pub mod Fronts
-pub mod Transfers
+pub mod TransferLemmas

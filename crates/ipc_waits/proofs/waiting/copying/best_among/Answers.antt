@@ -1,6 +1,6 @@
 use Rattle.std.proofs.Common.{refl}
 use Rattle.ipc_waits.specs.Rules.{rule_of}
-use Rattle.ipc_waits.proofs.Transfers.{best_next}
+use Rattle.ipc_waits.proofs.TransferLemmas.{best_next}
 use Rattle.ipc_waits.proofs.waiting.copying.best_among.Goals as goal
 
 pub loop-wait-preserved : goal.loop-wait-preserved

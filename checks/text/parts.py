@@ -28,7 +28,7 @@ COUNT = re.compile(rb"no 1 \d+ (number|over) ")
 READERS = (["state"], ["state", "--at", "5"], ["count"], ["count", "--json"], ["chart", "--text"], ["chart", "--from", "3", "--html"], ["follow"],
            ["follow", "--failures"], ["script"])
 # of how many parts that stand alone a history has to be found, at least
-FOUND = 0.99
+FOUND = 0.999
 # how many of the histories are cut at each of their places, and how many places of the others are tried
 PLACES = 12
 

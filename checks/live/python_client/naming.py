@@ -48,11 +48,15 @@ def bad_names(server):
     fault = names.NameFault
     with server.thread(92) as thread:
         asked = names.Names(thread)
-        for name in ("", " ", "a b", "a\n", "\x7f", "é"):
-            told(f"bad name {name!r}", lambda: asked.register(name), fault, number=fault.BAD_NAME, name=name)
-            told(f"bad name {name!r} looked up", lambda: asked.lookup(name), fault, number=fault.BAD_NAME)
         longest = "~" * 64
         same("the longest name", asked.register(longest), thread.id)
+        for name in ("", " ", "a b", "a\n", "\x7f", "é"):
+            told(f"bad name {name!r}", lambda: asked.register(name), ValueError)
+            told(f"bad name {name!r} looked up", lambda: asked.lookup(name), ValueError)
+            # the client sends none of these, and the server refuses each
+            for label in (1, 2):
+                answer = thread.call(asked.server, Message(label, [], [name.encode()]))
+                same(f"bad name {name!r} with label {label}", (answer.label, answer.words), (fault.BAD_NAME, (0,)))
         same("it is found", asked.lookup(longest), thread.id)
         for message in (Message(0), Message(1), Message(1, [1], [b"a"]), Message(2, [1]), Message(3), Message(4, [], [b"a"]), Message(3, [0], [b""])):
             answer = thread.call(asked.server, message, buffers=[64])

@@ -14,7 +14,7 @@ const SHORT: usize = 1024;
 const LONG: usize = 16_384;
 
 /// Writes the next bytes of an encoder, which passes just those that went out. None where it goes
-/// on.
+/// on; it blocks only where none of them went out.
 fn write_piece<P: PenPort>(
     port: &mut P,
     encoder: &mut Encoder,
@@ -25,6 +25,7 @@ fn write_piece<P: PenPort>(
     ensures wrote { Passes (P.written port.old) (P.written port.new) encoder.old encoder.new }
     ensures more { result ≡ None → length encoder.new < length encoder.old }
     ensures done { result ≡ Some Turn.Written → encoder.new ≡ [] }
+    ensures blocks { result ≡ Some Turn.Blocks → encoder.new ≡ encoder.old }
     ensures failed { result ≡ Some Turn.Failed → P.failures port.old < P.failures port.new }
     ensures kept { result ≢ Some Turn.Failed → P.failures port.new ≡ P.failures port.old }
 {

@@ -4,9 +4,9 @@ use Rattle.std.specs.Io.KnownBytes.{Appends}
 use Rattle.ipc_history.specs.declared.entry.Entry.{Entry}
 use Rattle.ipc_trace.specs.declared.version.TraceVersion.{TraceVersion}
 use Rattle.ipc_shell.specs.Checking.{HasLines}
-use Rattle.l4sh_count.specs.Events.{events_in}
-use Rattle.l4sh_count.specs.Tallies.{IsTally}
-use Rattle.l4sh_count.specs.declared.tally.Tally.{Tally}
+use Rattle.l4sh_look.specs.Events.{events_in}
+use Rattle.l4sh_look.specs.Tallies.{IsTally}
+use Rattle.l4sh_look.specs.declared.tally.Tally.{Tally}
 use Rattle.l4sh_state.specs.States.{TellsMoment}
 use Rattle.l4sh_look.specs.Looking.{ChartsTrace, EndsWithCounts, IsDrawnOf, IsPrinted, IsSaidOf, IsShown, IsSilent, LooksAt, Prints, PrintsOf, TellsCounts, shown_of, torn_end}
 use Rattle.l4sh_look.specs.declared.looking.Look.{Look}

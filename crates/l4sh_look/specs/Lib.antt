@@ -3,3 +3,10 @@ pub mod Fronts
 pub mod Looking
 pub mod Following
 pub mod Selecting
+pub mod Events
+pub mod Groups
+pub mod Rows
+pub mod Texts
+pub mod Runs
+pub mod Tallies
+pub mod Walked

@@ -9,10 +9,10 @@ use Rattle.ipc_trace.specs.declared.version.TraceVersion.{TraceVersion}
 use Rattle.ipc_shell.specs.Checking.{HasLines, HasBadLine}
 use Rattle.ipc_shell.specs.Commands.{script_text}
 use Rattle.ipc_shell.specs.Script.{commands_of}
-use Rattle.l4sh_count.specs.Events.{events_in}
-use Rattle.l4sh_count.specs.Tallies.{IsTally}
-use Rattle.l4sh_count.specs.Texts.{EndsWithAll}
-use Rattle.l4sh_count.specs.declared.tally.Tally.{Tally}
+use Rattle.l4sh_look.specs.Events.{events_in}
+use Rattle.l4sh_look.specs.Tallies.{IsTally}
+use Rattle.l4sh_look.specs.Texts.{EndsWithAll}
+use Rattle.l4sh_look.specs.declared.tally.Tally.{Tally}
 use Rattle.l4sh_state.specs.States.{TellsMoment}
 use Rattle.l4sh_look.specs.declared.exit.Exit.{Exit}
 use Rattle.l4sh_look.specs.declared.exit.Exit.TheVariants.{Done, BadLine, NoMemory, DeviceFailed, BadThreads, NoChart, UnknownVersion, IllegalLine, Torn}

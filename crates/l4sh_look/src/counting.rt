@@ -3,12 +3,13 @@ ghost use Rattle.std.specs.Prelude.{◌≡◌, ◌≢◌, ◌+◌, ◌<◌};
 ghost use Rattle.l4sh_look.specs.Looking.{IsPrinted, IsSaidOf, IsSilent, LooksAt, Prints, PrintsOf};
 ghost use Rattle.l4sh_look.specs.declared.looking.Look.TheVariants.{Counts};
 
+use crate::counter::Counter;
 use crate::exit::Exit;
 use crate::looking::{counts_text, illegal_at, print, timed_span, torn_after};
+use crate::walk::CountFault;
 use ipc_base::{PortRead, PortWrite};
 use ipc_history::Entry;
 use ipc_trace::{EntrySink, TraceEnd, TraceVersion, read_entries};
-use l4sh_count::{CountFault, Counter};
 use l4sh_state::Times;
 use std::alloc::{AllocError, Global};
 

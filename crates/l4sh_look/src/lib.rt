@@ -3,16 +3,27 @@
 #![tactic(auto)]
 
 mod chart;
+mod count_text;
+mod counter;
 mod counting;
+mod counts;
+mod event;
 mod exit;
+mod finding;
 mod follow;
 mod follower;
+mod json;
 mod judging;
 mod last_state;
 mod looking;
 mod notes;
+mod row;
 mod selection;
+mod span;
+mod tally;
 mod telling;
+mod times;
+mod walk;
 
 pub use chart::{chart_read, chart_reason, chart_trace, options_reason};
 pub use exit::{ChartFault, Exit};

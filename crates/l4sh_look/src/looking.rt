@@ -8,15 +8,19 @@ ghost use Rattle.l4sh_look.specs.Looking.{EndsWithCounts, IsPrinted, IsSaidOf, I
 ghost use Rattle.l4sh_look.specs.Looking.{shown_of, torn_end};
 ghost use Rattle.l4sh_look.specs.declared.looking.Look.TheVariants as look;
 
+use crate::count_text::tell_counts;
 use crate::counting::counts_of_trace;
+use crate::counts::Counts;
 use crate::exit::Exit;
+use crate::json::json_of;
 use crate::last_state::{past_the_end, state_of_trace, state_text};
+use crate::span::{Moments, Span};
+use crate::walk::{CountFault, counts_of};
 use ipc_base::{PortRead, PortWrite};
 use ipc_check::{Verdict, check};
 use ipc_history::Entry;
 use ipc_shell::{put, script_of};
 use ipc_trace::{TraceEnd, TraceRead, TraceVersion, read_trace};
-use l4sh_count::{CountFault, Counts, Moments, Span, counts_of, json_of, tell_counts};
 use l4sh_state::{State, Times, drops_of, state_of};
 use std::alloc::{AllocError, Global};
 

@@ -1,5 +1,0 @@
-pub mod Opening
-pub mod Texts
-pub mod RunLemmas
-pub mod TallyLemmas
-pub mod Told

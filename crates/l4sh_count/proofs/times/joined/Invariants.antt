@@ -1,7 +1,0 @@
-use Rattle.std.proofs.Common.{◌≡◌, ◌++◌, take}
-use Rattle.std.specs.Prelude.{replicate}
-use Rattle.l4sh_count.specs.Runs.{times_of}
-use Rattle.l4sh_count.proofs.times.joined.Given as goal
-
-abbrev pub invariant-loop-run : goal.invariant-loop-run
-invariant-loop-run l = times_of l.joined.items ++ replicate l.last.count l.last.time ≡ times_of (take l.run-index l.runs)

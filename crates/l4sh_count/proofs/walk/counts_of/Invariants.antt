@@ -1,5 +1,0 @@
-use Rattle.l4sh_count.proofs.Told.{IsToldTo}
-use Rattle.l4sh_count.proofs.walk.counts_of.Given as goal
-
-abbrev pub invariant-loop-index : goal.invariant-loop-index
-invariant-loop-index l = IsToldTo l.entries l.index l.past l.slots l.counts

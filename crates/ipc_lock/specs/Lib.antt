@@ -20,3 +20,4 @@ pub mod Owning
 pub mod Logs
 pub mod Giving
 pub mod Handing
+pub mod Opening

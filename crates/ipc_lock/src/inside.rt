@@ -14,6 +14,7 @@ mod ending;
 mod entering;
 mod laying;
 mod loading;
+mod opening;
 mod parting;
 mod reading;
 mod telling;

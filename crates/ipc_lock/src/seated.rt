@@ -17,6 +17,7 @@ mod calling;
 mod entering;
 mod looking;
 mod obeying;
+mod opening;
 mod parting;
 mod seats;
 

@@ -49,6 +49,9 @@ impl<C: Naming, T: Ledger, P: PenPort + Drop> Inside<C, T, P> {
                     Err(EnterRefused { refusal, .. }) => (Told::Refused(refusal), seat),
                 }
             }
+            Request::Open(number, version) => {
+                self.ask_open(now, place, seat, number, version, space)
+            }
             request => self.ask_other(now, place, seat, request, space),
         }
     }
@@ -110,7 +113,7 @@ impl<C: Naming, T: Ledger, P: PenPort + Drop> Inside<C, T, P> {
 
     /// The seat's thread is told in this box from here on, first of all its WELCOME.
     #[tactic(auto, using(crate::proofs::Moves::changed_there, crate::proofs::Moves::changed_none, crate::proofs::Moves::set_none))]
-    fn welcome(&mut self, place: usize, seat: TakeSeat<T>, version: WireVersion)
+    pub(super) fn welcome(&mut self, place: usize, seat: TakeSeat<T>, version: WireVersion)
         ensures welcomed { self.new.boxes.items ≡ changed_at (welcomed (take_parts seat) version)
             self.old.boxes.items place }
         ensures owners { self.new.owners.items

@@ -80,8 +80,7 @@ impl Course {
 
     /// Appends a call that may follow, with its copies; where it reaches a receiving call, the
     /// beginning and the end of its transfer too. Says where nothing more comes of it. Takes no
-    /// memory. It has a large frame, so it is never inlined: an open needs none of it.
-    #[inline(never)]
+    /// memory.
     fn append_call(
         &mut self,
         number: u64,

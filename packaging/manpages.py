@@ -115,8 +115,8 @@ def shell(programs):
 
 
 def roles(programs):
-    told = subprocess.run([f"{programs}/l4x"], capture_output=True, text=True, stdin=subprocess.DEVNULL)
-    usage = (told.stdout + told.stderr).strip()
+    told = subprocess.run([f"{programs}/l4x", "--help"], capture_output=True, text=True, stdin=subprocess.DEVNULL, check=True)
+    usage = told.stdout.strip()
     return [".SH SYNOPSIS", ".B l4x", "DIR ROLE", ".SH DESCRIPTION",
             plain("l4x is a thread of the l4d that listens in DIR. What it is says its second word. `l4x DIR names` is a name server: servers register a "
                   "name there, and clients look it up. The unit l4d-names.service runs it."), ".PP", ".EX",

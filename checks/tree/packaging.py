@@ -155,6 +155,9 @@ def pages(below):
         if name in ("l4d", "l4sh"):
             missing = {word for word in helps(f"{below}/lib/hashkarst/{name}") - {"--help"} if word not in text}
             assert not missing and "EXAMPLES" in heads[name], (name, missing)
+        if name == "l4x":
+            unsaid = [line for line in run(f"{below}/lib/hashkarst/l4x", "--help").stdout.splitlines() if line.strip() not in text]
+            assert not unsaid, (name, unsaid)
         if shutil.which("man") and shutil.which("groff"):
             shown = run("man", "-l", "--warnings", path, env={**os.environ, "MANPAGER": "cat", "MANWIDTH": "80"})
             assert shown.returncode == 0 and shown.stderr == "" and len(shown.stdout) > 3000, (name, shown.stderr[:300])

@@ -59,6 +59,13 @@ class Begin(unittest.TestCase):
             with self.assertRaises(RuntimeError):
                 does()
 
+    def test_a_thread_that_is_closed_meanwhile(self):
+        thread, _ = self.begun()
+        thread.close()
+        for does in (thread.is_over, thread.finish, lambda: thread.wait(0), thread.begin_wait, lambda: thread.call(FIRST)):
+            with self.assertRaises(l4ipc.Closed):
+                does()
+
     def test_the_frames_are_those_of_the_calls(self):
         rows = [
             (lambda it: it.begin_wait(1, [5]), lambda it: it.wait(1, [5])),

@@ -101,6 +101,9 @@ class Thread(Caller):
         """
         is_there = not self._is_closed and not self._is_lost
         self._is_closed = True
+        if self._begun is not None:  # nobody finishes it any more
+            self._begun = None
+            self._call.release()
         try:
             if is_there:
                 connecting.end_thread(self._connection)
@@ -255,7 +258,7 @@ class Thread(Caller):
         It is over, too, where the connection has ended: `finish` raises that.
         """
         if self._begun is None:
-            raise RuntimeError("no call was begun")
+            raise self._no_call()
         try:
             while self._arrived() is None:
                 more = self._connection.recv(_MOST_READ, socket.MSG_DONTWAIT)
@@ -272,9 +275,13 @@ class Thread(Caller):
         """What the call that was begun has brought: a message, or an exception. It waits until the call is over."""
         call, self._begun = self._begun, None
         if call is None:
-            raise RuntimeError("no call was begun")
+            raise self._no_call()
         self._call.release()
         return self._result(call, self._ask(b"", frames.Outcome))
+
+    def _no_call(self) -> Exception:
+        """Why there is no call that was begun."""
+        return Closed(f"{self!r}: no call is made") if self._is_closed else RuntimeError("no call was begun")
 
     def _begin_call(
         self, to: int, from_specifier: int, message: Message, times: int, buffers: Sequence[Buffer], is_answer: bool = False

@@ -2,6 +2,7 @@
 
 import os
 import pty
+import resource
 import signal
 import subprocess
 import tempfile
@@ -129,3 +130,23 @@ def unread_pipe():
         assert (process.returncode, out, err) == (0, "closed\n", ""), (process.returncode, out, err)
         assert os.listdir(folder) == ["trace"], os.listdir(folder)
     return f"closed, status 0 after {spent * 1000:.0f} ms"
+
+
+def limited_file():
+    """A trace whose file reaches the limit of a file's size stops, which is told, and the server goes on."""
+    with tempfile.TemporaryDirectory() as folder:
+        words = [BLOCKED, PROGRAM, "--dir", folder, "--spaces", "1", "--trace", f"{folder}/trace", "--connections", "2"]
+        few = lambda: resource.setrlimit(resource.RLIMIT_FSIZE, (4_096, 4_096))
+        with subprocess.Popen(words, stdin=subprocess.DEVNULL, stdout=subprocess.PIPE, stderr=subprocess.PIPE, text=True, preexec_fn=few) as process:
+            try:
+                assert process.stdout.readline() == "listening 1\n"
+                pair = Client(f"{folder}/space1", 1), Client(f"{folder}/space1", 2)
+                for _ in range(200):
+                    pair_works(pair)
+                for client in pair:
+                    client.bye()
+                out, err = process.communicate(timeout=20)
+            finally:
+                process.kill()
+        assert (process.returncode, out) == (1, "closed\n") and err.startswith("l4d: trace TR1\n") and "File too large" in err, (process.returncode, out, err)
+    return "TR1 told once, 200 exchanges went on, closed"

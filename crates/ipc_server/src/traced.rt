@@ -156,9 +156,8 @@ fn watch_pipe<C: Naming, T: Ledger, R: Wait + Clock + TraceDisk>(
         }
         if host.has_signal(server.alloc) {
             host.stop(server.rt);
-            // where that fails, l4d waits on
+            // it may not have begun to wait yet: then the next turn releases it
             let _ = server.rt.release_pipe(path);
-            return;
         }
         thread::sleep(server.rt, Duration::from_millis(PIPE_TURN));
     }

@@ -82,8 +82,11 @@ def kit(asks):
 
 
 def sum_once(crate_type):
-    """Has the sum of a crate's sources ask once for that of each crate below. The kit asks once for each way down to it, which are thousands here."""
-    of_all, known = crate_type.stamp, threading.local()
+    """Has the sum of a crate's sources ask once for that of each crate below. The kit asks once for each way down to it, which are thousands here; a kit
+    of another letter may sum in another way, which is left as it is."""
+    of_all, known = getattr(crate_type, "stamp", None), threading.local()
+    if of_all is None:
+        return
 
     def stamp(crate):
         sums = getattr(known, "sums", None)

@@ -148,6 +148,7 @@ def check_counters(l4d, l4sh):
         counters = dict(line.split(" ") for line in told.splitlines())
         check("counters are told", (status, error) == (0, "") and all(value.isdigit() for value in counters.values()), (status, told, error))
         check("they count", counters.get("threads") == "2" and counters.get("connections") == "2" and counters.get("calls_over") == "10", counters)
+        check("no refusal is counted that there is not", "refusals_k0" not in counters and "refusals_k1" in counters, counters)
         check("without a trace none lags or stops", not {"trace_entries_behind", "trace_stopped"} & set(counters), counters)
     with Server(l4d, "--trace", "/dev/null") as server:
         tally.same("a trace that goes on", counters_of(server).get("trace_stopped"), "0")

@@ -37,7 +37,7 @@ def listening(path):
 
 # What a server answers to HELLO before it goes, and what l4x says then.
 GOES = [
-    ("", "F9: the connection ended"),
+    ("", "F9: the connection ended: so did its l4d, or it has no memory or no worker for it, and says so on its standard error"),
     ("00000002 84 02", "refused: K2: a thread of that number is live; end the program that has it, or wait until it has ended"),
     ("00000002 84 04", "refused: K4: no memory"),
     ("00000003 85 53 03", "the server answered S3: the server stops"),
@@ -62,6 +62,19 @@ def check_words(l4x):
             ran = subprocess.run([l4x, folder, "keyvalue"], stdin=subprocess.DEVNULL, capture_output=True, text=True, timeout=SECONDS)
             serving.join(SECONDS)
             tally.same(f"l4x behind {frame or 'nothing'}", (ran.returncode, ran.stdout, ran.stderr), (1, "", f"l4x: {folder}/space1: {words}\n"))
+
+
+def check_full_device(l4x):
+    """What l4x says where standard output takes nothing."""
+    with tempfile.TemporaryDirectory() as folder, listening(f"{folder}/space1") as door, open("/dev/full", "w") as full:
+        serving = threading.Thread(target=answers_and_goes, args=(door, "00000009 81 000000ff00000001"))
+        serving.start()
+        ran = subprocess.run([l4x, folder, "names"], stdin=subprocess.DEVNULL, stdout=full, stderr=subprocess.PIPE, text=True, timeout=SECONDS)
+        serving.join(SECONDS)
+        told = "l4x: standard output failed: No space left on device (os error 28)\n"
+        tally.same("l4x into a full device", (ran.returncode, ran.stderr), (1, told))
+        ran = subprocess.run([l4x, "help"], stdin=subprocess.DEVNULL, stdout=full, stderr=subprocess.PIPE, text=True, timeout=SECONDS)
+        tally.same("its help into a full device", (ran.returncode, ran.stderr), (1, told))
 
 
 def check_unconnected(l4sh, l4x):
@@ -165,6 +178,7 @@ def check_late(l4sh):
 def main(arguments):
     l4sh, l4x = programs_of(arguments, __doc__, 2)
     check_words(l4x)
+    check_full_device(l4x)
     check_unconnected(l4sh, l4x)
     check_mistakes(l4x)
     check_late(l4sh)

@@ -73,15 +73,17 @@ EXCHANGES = [
      "= 0x100000000 2.1 nil 0x0 - -    from 2.1, label 0x10000, no words\n"),
     ("quit", BYE, "", ""),
 ]
+# What is told where the connection ends.
+GONE = "l4sh: the server is gone\nit ended, or has no memory or no worker for this connection: its standard error says which\n"
 # The frames of a server, of which the last one may be cut, and how a talk of two lines ends with them: its status, and what is told.
 ENDINGS = [
     ([WELCOME, SENT, SENT], 0, ""),
     (["00000002 84 02"], 4, "l4sh: the server refused the thread: K2\na thread of that number is live; --thread N takes another number\n"),
     ([WELCOME, "00000003 85 53 03"], 4, "l4sh: the server ended the thread: S3\nthe server stops\n"),
     ([WELCOME, "00000003 85 4b 07"], 4, "l4sh: the server ended the thread: K7\nthe thread has an open call, or an outcome that it has not yet taken\n"),
-    ([], 4, "l4sh: the server is gone\n"),
-    ([WELCOME, SENT, "000000"], 4, "l4sh: the server is gone\n"),
-    ([WELCOME, "0000"], 4, "l4sh: the server is gone\n"),
+    ([], 4, GONE),
+    ([WELCOME, SENT, "000000"], 4, GONE),
+    ([WELCOME, "0000"], 4, GONE),
     ([WELCOME, WELCOME], 4, "l4sh: the server sent what is no answer\n"),
 ]
 # A thread of space 2 sends in the name of one of its space, which is kept, of one of another space, and of one that is not there.
@@ -264,7 +266,7 @@ def refusals(server):
     again.ends("the next version")
     with open("/dev/full", "w") as full:
         ran = subprocess.run([L4SH, "talk", server.folder, "--thread", "22"], input="", stdout=full, stderr=subprocess.PIPE, text=True)
-    same("a full device", (ran.returncode, ran.stderr), (1, "l4sh: device failed\n"))
+    same("a full device", (ran.returncode, ran.stderr), (1, "l4sh: device failed\nstandard output: No space left on device (os error 28)\n"))
 
 
 def judged(server):
@@ -291,8 +293,8 @@ def lost_servers():
         waiting.type("receive")
         until_waits(idle, "2")
         server.kill()
-        waiting.ends("a server that is killed while a call waits", 4, "l4sh: the server is gone\n")
-        idle.ends("a server that was killed before", 4, "l4sh: the server is gone\n", typed="receive\n")
+        waiting.ends("a server that is killed while a call waits", 4, GONE)
+        idle.ends("a server that was killed before", 4, GONE, typed="receive\n")
 
 
 def lost_at_a_terminal():
@@ -313,7 +315,7 @@ def lost_at_a_terminal():
                 pass  # it ended, and let go of the terminal
             talk.kill()
         os.close(ours)
-        same("a terminal whose server ends", (talk.returncode, seen.decode()), (4, "\r\nl4sh: the server is gone\r\n"))
+        same("a terminal whose server ends", (talk.returncode, seen.decode()), (4, "\r\n" + GONE.replace("\n", "\r\n")))
 
 
 def beside_frames(frames, talk):

@@ -228,6 +228,10 @@ def check_without(l4d, l4sh):
         check("a folder in its place stops no trace", (status, printed, told) == (0, "yes\n", ""), (status, printed, told))
         status, printed, told = tool(l4sh, "state", "--time", server.trace)
         check("and no time is known", (status, printed) == (2, "") and told.count("\n") == 1, (status, printed, told))
+        moved = f"{folder}/moved"
+        os.rename(server.trace, moved)
+        told = tool(l4sh, "state", "--time", moved)[2]
+        check("of a trace that is moved it is told which file is not", f"{moved}.began, which l4d writes beside its trace" in told, told)
         os.rmdir(f"{folder}/trace.began")
     check("a server says when it began", bool(BEGAN.fullmatch(start)), start)
 

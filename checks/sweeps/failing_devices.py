@@ -7,8 +7,8 @@ The commands read what lies in the tree: `run` the scripts of checks/scripts/run
 checks/scripts/wire and checks/scripts/talk, and `check`, `state`, `script`, `count`, `follow` and `chart` the traces of the examples.
 With --every N only each N-th script of `run` and `wire` is taken.
 
-- Where read, write or open number k fails, the status is 1, standard error says `l4sh: device failed`, of an open with the file
-  and the reason in a second line, and what was printed is a front of the usual output. No verdict or answer is printed that is
+- Where read, write or open number k fails, the status is 1, standard error says `l4sh: device failed`, and in a second line which
+  device it was, and the reason, and what was printed is a front of the usual output. No verdict or answer is printed that is
   not the usual one.
 - A write that takes nothing counts as failed.
 - Where each call moves one byte, and where 999 calls in a row are interrupted, all is as usual. 1,000 count as a failed device.
@@ -17,7 +17,7 @@ With --every N only each N-th script of `run` and `wire` is taken.
 
 For the trace of `l4d` the same is so of its writes and of its open: `l4d: trace TR1` is told once, the server serves on and ends
 with status 1, and what stands in the file is a front of a legal history. Where l4d cannot write to standard output it ends with
-`l4d: device failed`, or `l4d: probe failed` where the line of the probe is lost.
+`l4d: device failed` and the reason, or `l4d: probe failed` where the line of the probe is lost.
 
 A talk with a server ends as `l4sh: device failed` where its standard input or output fails. And what a server tells its clients goes out whole and once,
 also where its sockets take one byte at a time, and none for a while. Where one fails, exactly the bytes before it have come, and the connection ends.
@@ -77,14 +77,17 @@ def places(count):
     return range(1, count + 1) if count <= 2 * PLACES else [*range(1, PLACES + 1), *range(count - PLACES + 1, count + 1)]
 
 
-def is_as_failed(ran, usual, command, path=None):
-    """What is wrong with a run whose device failed."""
+def failed(device, number):
+    """What is told where this device failed with an error of this number; 0: it took nothing."""
+    reason = f"{os.strerror(number)} (os error {number})" if number else "it takes nothing"
+    return FAILED + f"{device}: {reason}\n".encode()
+
+
+def is_as_failed(ran, usual, wanted):
+    """What is wrong with a run whose device failed, of which this is told."""
     status, out, told = ran
-    lines = told.splitlines(keepends=True)
-    if status != 1 or lines[:1] != [FAILED]:
-        return f"status {status}, {told[:100]!r}"
-    if len(lines) != (2 if path else 1) or path and path.encode() not in lines[1]:
-        return f"standard error says {told[:200]!r}"
+    if (status, told) != (1, wanted):
+        return f"status {status}, {told[:200]!r}"
     if not usual[1].startswith(out):
         return "what is printed is no front of the usual output"
     return None
@@ -93,21 +96,20 @@ def is_as_failed(ran, usual, command, path=None):
 def wrongs_of(shim, words, given, path=None):
     """What was tried of one command, and what is wrong with it."""
     usual = shim.run(words, given)
-    command = words[1]
+    devices = {"read": path or "standard input", "write": "standard output", "open": path}
     for kind in ("read", "write", "open"):
         count = shim.count(words, given, fail_kind=kind)
-        opens_file = lambda place: path if kind == "open" else None
         for place in places(count):
             for number in (errno.EIO,) if kind != "write" else (errno.EIO, errno.ENOSPC, 0):
                 ran = shim.run(words, given, fail_kind=kind, fail_at=place, fail_errno=number)
-                yield f"{kind} {place} of {count} fails with {number}", is_as_failed(ran, usual, command, opens_file(place))
+                yield f"{kind} {place} of {count} fails with {number}", is_as_failed(ran, usual, failed(devices[kind], number))
         if kind == "open":
             continue
         for place in sorted({1, (count + 1) // 2, count} & set(range(1, count + 1))):
             ran = shim.run(words, given, fail_kind=kind, fail_at=place, fail_errno=errno.EINTR, fail_times=MANY - 1)
             yield f"{kind} {place} of {count} is interrupted {MANY - 1} times", None if ran == usual else f"it is not as usual: {ran}"
             ran = shim.run(words, given, fail_kind=kind, fail_at=place, fail_errno=errno.EINTR, fail_times=MANY)
-            yield f"{kind} {place} of {count} is interrupted {MANY} times", is_as_failed(ran, usual, command)
+            yield f"{kind} {place} of {count} is interrupted {MANY} times", is_as_failed(ran, usual, failed(devices[kind], errno.EINTR))
         ran = shim.run(words, given, fail_kind=kind, one_byte=1)
         yield f"each {kind} moves one byte", None if ran == usual else f"it is not as usual: {ran}"
 
@@ -118,12 +120,13 @@ def bytewise_wrongs(shim, l4sh, trace):
     for place in range(1, len(script) + 2):
         ran = shim.run([l4sh, "run"], script, fail_kind="read", one_byte=1, fail_at=place)
         printed = b"".join(answers[: script[: place - 1].count(b"\n")])
-        yield f"read {place} fails", None if ran == (1, printed, FAILED) else f"{ran}"
+        yield f"read {place} fails", None if ran == (1, printed, failed("standard input", errno.EIO)) else f"{ran}"
     for words, given, whole in (([l4sh, "run"], script, b"".join(answers)), ([l4sh, "check", trace], b"", b"yes\n")):
         for place in range(1, len(whole) + 1):
             for wishes in ({}, {"fail_errno": errno.EINTR, "fail_times": MANY}):
+                told = failed("standard output", wishes.get("fail_errno", errno.EIO))
                 ran = shim.run(words, given, fail_kind="write", one_byte=1, fail_at=place, **wishes)
-                yield f"write {place} of {words[1]} fails {wishes}", None if ran == (1, whole[: place - 1], FAILED) else f"{ran}"
+                yield f"write {place} of {words[1]} fails {wishes}", None if ran == (1, whole[: place - 1], told) else f"{ran}"
 
 
 def is_front_of_legal(l4sh, file):
@@ -174,7 +177,8 @@ def trace_wrongs(shim, l4sh, l4d):
     for place in (1, 2, 3):
         (status, out, told), wrong, size = serve(trace=False, fail_kind="write", fail_on=1, fail_at=place)
         # the second line is that of the probe
-        said = b"l4d: probe failed\n" if place == 2 else b"l4d: device failed\n"
+        why = f"l4d: device failed\n  standard output: {os.strerror(errno.EIO)} (os error {errno.EIO})\n"
+        said = b"l4d: probe failed\n" if place == 2 else why.encode()
         is_so = (status, told) == (1, said) and good[1].startswith(out)
         yield f"line {place} of standard output fails", wrong or (None if is_so else f"{status}, {out}, {told}")
 
@@ -189,7 +193,8 @@ def talk_wrongs(shim, l4sh, l4d):
 
         usual = talk(next(numbers))
         yield "nothing fails", None if usual[0] == 0 and usual[1].count(b"\n") == 3 else f"{usual}"
-        for kind, on in (("read", 0), ("write", 1)):
+        # (why standard input failed is not told)
+        for kind, on, told in (("read", 0, FAILED), ("write", 1, failed("standard output", errno.EIO))):
             wishes = {"fail_kind": kind, "fail_on": on, "one_byte": int(kind == "read")}
             talk(next(numbers), count_to=f"{shim.room}/count", **wishes)
             with open(f"{shim.room}/count", encoding="ascii") as file:
@@ -197,7 +202,7 @@ def talk_wrongs(shim, l4sh, l4d):
             for place in range(1, count + 1):
                 number = next(numbers)
                 expected = (usual[0], usual[1].replace(b"= 1.1 ", f"= {number}.1 ".encode()), usual[2])
-                yield f"{kind} {place} of {count} fails", is_as_failed(talk(number, fail_at=place, **wishes), expected, "talk")
+                yield f"{kind} {place} of {count} fails", is_as_failed(talk(number, fail_at=place, **wishes), expected, told)
 
 
 NEVER_LIVE = 77 << 32 | 1
@@ -278,20 +283,20 @@ def migration_wrongs(shim, l4sh, trace, new):
             return ran, file.read()
 
     # (the first write is one of the new trace, the other one of what is printed)
-    at_fault = {"read": {}, "write": {1: new}, "open": {1: trace, 2: new}}
+    at_fault = {"read": {}, "write": {1: new, 2: "standard output"}, "open": {2: new}}
     usual, whole = migrate()
     yield "nothing fails", None if usual == (0, b"torn\n", b"") and whole.startswith(b"l4trace 2\n") else f"{usual}, {whole[:100]}"
     for kind in ("read", "write", "open"):
         count = shim.count(words, b"", fail_kind=kind)
         for place in places(count):
             ran, made = migrate(fail_kind=kind, fail_at=place, fail_errno=errno.EIO)
-            wrong = is_as_failed(ran, usual, "migrate", at_fault[kind].get(place))
+            wrong = is_as_failed(ran, usual, failed(at_fault[kind].get(place, trace), errno.EIO))
             yield f"{kind} {place} of {count} fails", wrong or (None if whole.startswith(made) else "the new trace is no front of the usual one")
         if kind != "open":
             ran = migrate(fail_kind=kind, one_byte=1)
             yield f"each {kind} moves one byte", None if ran == (usual, whole) else f"it is not as usual: {ran}"
     ran, made = migrate(fail_kind="write", fail_on=1, fail_at=1)
-    yield "the line torn fails", is_as_failed(ran, usual, "migrate") or (None if made == whole else "the new trace is not whole")
+    yield "the line torn fails", is_as_failed(ran, usual, failed("standard output", errno.EIO)) or (None if made == whole else "the new trace is not whole")
 
 
 def legal_trace(room):

@@ -15,7 +15,8 @@ traces, each another one. A row of l4d with lines
 
 is of a server that is served until SIGTERM comes. They say on which paths it listens, and their permissions; it ends well.
 
-Then `-V` tells what `--version` tells, and `l4sh help` prints what `l4sh --help` tells. Its last line is `N rows, M failed`; the status is 0 where M is 0.
+Then `-V` tells what `--version` tells, and `l4sh help` prints what `l4sh --help` tells. A start without standard input and output lets no file take their
+place, and a word that is not UTF-8 is told. Its last line is `N rows, M failed`; the status is 0 where M is 0.
 """
 
 import os
@@ -101,6 +102,29 @@ def served(words):
         return server.returncode, lines(first + out), lines(err), paths
 
 
+def begins_without(descriptors, words):
+    """The status of a run that begins without these standard streams, and what it says on standard error."""
+    run = subprocess.run(words, preexec_fn=lambda: [os.close(it) for it in descriptors], stderr=subprocess.PIPE, timeout=SECONDS)
+    return run.returncode, run.stderr.decode()
+
+
+def odd_starts(programs):
+    """What is wrong with starts without standard streams, which no file may get in their place, and with words that are no text."""
+    with open("torn", "w", encoding="utf-8") as file:
+        file.write("l4trace 2\nopened 1.1 1\nbroke")
+    ran([programs["l4sh"], "migrate", "torn", "whole"])
+    status, told = begins_without((0, 1), [programs["l4sh"], "migrate", "torn", "alone"])
+    if status != 1 or not told.startswith("l4sh: device failed\n") or open("alone").read() != open("whole").read():
+        yield f"migrate without standard streams: {status} {told} {open('alone').read()}"
+    status, told = begins_without((1,), [programs["l4sh"], "check", "trace"])
+    if status != 1 or not told.startswith("l4sh: device failed\n"):
+        yield f"check without standard output: {status} {told}"
+    for name, words in (("l4sh", [b"check", b"t\xff"]), ("l4sh", [b"\xff"]), ("l4d", [b"--dir", b"d\xff", b"--spaces", b"1"])):
+        run = subprocess.run([programs[name].encode(), *words], capture_output=True, timeout=SECONDS)
+        if (run.returncode, run.stdout, run.stderr) != (2, b"", f"{name}: an argument is not UTF-8\n".encode()):
+            yield f"{name} {words}: {run}"
+
+
 def main(words):
     if len(words) != 2:
         sys.exit(__doc__)
@@ -128,8 +152,11 @@ def main(words):
         if (help_as_a_command[0], help_as_a_command[1], help_as_a_command[2]) != (0, help_as_an_option[2], []):
             failed += 1
             print("l4sh help does not print what l4sh --help tells")
+        for wrong in odd_starts(programs):
+            failed += 1
+            print(wrong[:1500])
         os.chdir(HERE)
-    print(f"{len(rows) + len(alike) + 1} rows, {failed} failed")
+    print(f"{len(rows) + len(alike) + 6} rows, {failed} failed")
     return 1 if failed or not rows else 0
 
 

@@ -12,6 +12,7 @@ import glob
 import os
 import re
 import stat
+import subprocess
 import sys
 import tempfile
 
@@ -128,6 +129,12 @@ def faults_of_files(l4sh, room, _):
     full = failed + b"/dev/full: No space left on device (os error 28)\n"
     if os.path.exists("/dev/full") and ended([l4sh, "migrate", old, "/dev/full"]) != (b"", 1, full):
         yield f"into a full device it ends so: {ended([l4sh, 'migrate', old, '/dev/full'])}"
+    there = subprocess.run([l4sh, "migrate", old, "-"], cwd=room, capture_output=True)
+    told = b"l4sh: bad word\nNEW: wanted is a file, which is written; not -, and ./- names one of that name\n"
+    if (there.returncode, there.stdout, there.stderr) != (2, b"", told) or os.path.exists(f"{room}/-"):
+        yield f"into - it ends so: {there}"
+    if subprocess.run([l4sh, "migrate", old, "./-"], cwd=room).returncode or not os.path.exists(f"{room}/-"):
+        yield "into ./- it does not go"
     mask = os.umask(0)
     try:
         ended([l4sh, "migrate", old, f"{room}/made"])

@@ -22,7 +22,7 @@ of each example, and of each script in checks/scripts/run.
 What is too long to be stored is made here: 1,022 threads that send to one, which receives from each in turn, or none before they are all due; a hundred messages with a
 compaction behind each, where there is room for few; and messages that took each time up to some longest one, whose counts are told.
 
-And what no script shows: that each code of the C client is explained, `--version`, a folder in place of a trace, that `l4sh follow -` tells an entry before the next one comes, that of a line that is too long
+And what no script shows: that each code of the C client is explained, `--version`, a folder in place of a trace, why standard output and standard input fail, that `l4sh follow -` tells an entry before the next one comes, that of a line that is too long
 no more is kept than has to be, and of a long trace neither, that `l4sh wire` has 65,535 connections and no more, and that a terminal is told how much of a trace is read that takes more than two seconds, and nothing of
 others. The last line is `N passed, M failed`.
 
@@ -227,6 +227,38 @@ def faults_of_folder(l4sh, path):
         os.close(folder)
         if (ran.returncode, ran.stdout, ran.stderr) != (1, b"", b"l4sh: device failed\nstandard input is a folder\n"):
             yield f"{words} of a folder as standard input ends so: {ran}"
+
+
+def into(l4sh, words, given, device):
+    """The status of a run whose standard output is this device, and what it tells: a full one, or a pipe that nobody reads."""
+    if device == "full":
+        output = os.open("/dev/full", os.O_WRONLY)
+    else:
+        ours, output = os.pipe()
+        os.close(ours)
+    ran = subprocess.run([l4sh, *words], input=given, stdout=output, stderr=subprocess.PIPE)
+    os.close(output)
+    return ran.returncode, ran.stderr
+
+
+def faults_of_devices(l4sh, _):
+    """Where standard output or standard input fails the second line names it, and the system's reason. A pipe that nobody reads any more is such a device."""
+    reasons = {"full": b"No space left on device (os error 28)", "closed": b"Broken pipe (os error 32)"}
+    with tempfile.NamedTemporaryFile() as trace:
+        trace.write(b"opened 1.1 1\n")
+        trace.flush()
+        of_input = [((command,), given) for command, given in (("run", b"open 1 1\n"), ("wire", b"connect 1\n"), ("talk", b"open 1 1\n"))]
+        of_words = [(words, b"") for words in (("explain", "K2"), ("tag", "words=1"), ("period", "5ms"), ("help",), ("--version",))]
+        of_files = [((command, trace.name), b"") for command in OF_A_FILE]
+        for device, reason in reasons.items():
+            for words, given in (*of_input, *of_words, *of_files):
+                told = into(l4sh, words, given, device)
+                if told != (1, b"l4sh: device failed\nstandard output: " + reason + b"\n"):
+                    yield f"{words} into a {device} device ends so: {told}"
+    for words in (*((command,) for command in OF_INPUT), *((command, "-") for command in OF_A_FILE)):
+        ran = subprocess.run([l4sh, *words], preexec_fn=lambda: os.close(0), capture_output=True)
+        if (ran.returncode, ran.stderr) != (1, b"l4sh: device failed\nstandard input: Bad file descriptor (os error 9)\n"):
+            yield f"{words} without standard input ends so: {ran}"
 
 
 def faults_of_following(l4sh, _):
@@ -474,7 +506,7 @@ def main():
     looks += [(path, faults_of_script) for path in [*examples, *scripts]]
     looks += [(name, faults_of_made) for name in MADE] + [("times", faults_of_times)]
     looks += [("codes of the C client", faults_of_codes)]
-    looks += [("--version", faults_of_version), (HERE, faults_of_folder), ("follow -", faults_of_following), ("long lines", faults_of_long_lines), ("many connections", faults_of_connections), ("progress", faults_of_progress), ("long traces", faults_of_long_traces)]
+    looks += [("--version", faults_of_version), (HERE, faults_of_folder), ("devices", faults_of_devices), ("follow -", faults_of_following), ("long lines", faults_of_long_lines), ("many connections", faults_of_connections), ("progress", faults_of_progress), ("long traces", faults_of_long_traces)]
     failed = 0
     for path, faults_of in looks:
         faults = list(faults_of(l4sh, path))

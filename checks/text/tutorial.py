@@ -116,6 +116,11 @@ def main():
     check("a script that is not there", status == 2 and "no such file" in said, said)
     status, said = judged_text("1", "walk\n")
     check("a line that is none", status == 1 and "l4sh does not take a line" in said, said)
+    with tempfile.NamedTemporaryFile(suffix=".l4") as file:
+        file.write(b"call 1 \xff\xfe\n")
+        file.flush()
+        status, said = judged("1", file.name)
+    check("bytes that are no text", status == 1 and "l4sh does not take a line" in said and "\\xff\\xfe" in said, said)
     return tally.end()
 
 

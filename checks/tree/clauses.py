@@ -9,10 +9,12 @@
 - A word in a column of clauses, or at the end of an item below `What you may rely on`, has to be the name of a clause, a
   function or a definition of that crate, and not a word that stands there by chance.
 - A file that is named by its ending has to be there: below the crate of the README, or below the root.
+- Each function between a connection's reader and the port of its pen that has no clause has to stand in the list of these in PROMISES.
 
 It prints what is missing; the status is 1 where something is. The last line is `N names, M missing`.
 """
 
+import glob
 import os
 import re
 import sys
@@ -32,6 +34,16 @@ DECLARED = (
 # What stands for any name in a path.
 ANY = re.compile(r"\b(?:NAME|Module|X|x)\b")
 PROGRAMS = {"l4d", "l4sh", "l4x"}
+# What lies between the reader of a connection and the port of its pen.
+BETWEEN = (
+    "ipc_session/src/reading.rt",
+    *(f"ipc_server/src/{name}.rt" for name in ("caller", "noted", "services", "serving")),
+    "ipc_lock/src/**/*.rt",
+    *(f"ipc_connection/src/{name}.rt" for name in ("given", "pen", "writing")),
+)
+# A function: its name, and all before its body.
+HEAD_OF = re.compile(r"^( *)((?:pub(?:\([a-z ]+\))? )?(?:const )?fn (\w+)[\s\S]*?)(?:^\1\{|\{$|;$)", re.M)
+BLOCK = re.compile(r"^(?:pub )?(impl|trait)\b(?:<[^{]*?>)?\s*([^{;]*)", re.M)
 
 
 def files_below(place):
@@ -115,6 +127,28 @@ def names_of(path, crates, files):
             yield quoted, re.search(f"{ending}$", files, re.M) is not None
 
 
+def without_clause(path):
+    """The functions of a file that have no clause of their own: of a trait its name, of a type that is made the type's. A trait's impl has those of the trait."""
+    with open(path, encoding="utf-8") as file:
+        text = file.read()
+    for found in HEAD_OF.finditer(text):
+        owner = [it for it in BLOCK.finditer(text, 0, found.start())][-1:] if found[1] else []
+        kind, of = owner[0].groups() if owner else ("", "")
+        if "ensures" in found[2] or kind == "impl" and " for " in f" {of} ":
+            continue
+        yield re.match(r"\w+", of)[0] if kind == "trait" or found[3] == "new" else found[3]
+
+
+def not_listed():
+    """Which of those between a reader and a pen's port PROMISES does not list."""
+    with open("docs/PROMISES.md", encoding="utf-8") as file:
+        listed = file.read().partition("\nThese have none:\n\n")[2].partition("\n\n")[0]
+    named = {name for item in listed.split("\n- ") for name in re.findall(r"`(\w+)`", item.partition(":")[0])}
+    paths = [path for pattern in BETWEEN for path in glob.glob(f"crates/{pattern}", recursive=True)]
+    found = {name for path in paths for name in without_clause(path)}
+    return sorted(found - named) if found else ["a function without a clause"]
+
+
 def main():
     os.chdir(ROOT)
     crates = {name: words_of(name) for name in os.listdir("crates")}
@@ -125,6 +159,7 @@ def main():
             count += 1
             if not is_so:
                 missing.append((path, name))
+    missing += [("docs/PROMISES.md", f"{name}, which has no clause,") for name in not_listed()]
     for path, name in missing:
         print(f"{path}: {name} is not there")
     print(f"{count} names, {len(missing)} missing")

@@ -98,7 +98,13 @@ def kits():
             told = run(f"{place}/try", "l4d", "--help")
             assert told.returncode == 1 and f"try: {place}/out" in told.stderr and "Traceback" not in told.stderr, told.stderr[-400:]
             facts += 1
-    return facts
+    with open(f"{ROOT}/README.md", encoding="utf-8") as page:
+        text = " ".join(page.read().split())
+    for words in (f"the logic `{proved_with()}`", "the command `rt` on the PATH", "`rt version` prints", "`rt doc` prints", "knows no address of it", "`packaging/deb FOLDER`"):
+        assert words in text, f"README does not say of the kit: {words}"
+        facts += 1
+    assert not re.search(r"kit-\d+[a-z]", text), "README names a kit by its letter"
+    return facts + 1
 
 
 def clients():

@@ -45,6 +45,8 @@ NOT_PROVED = re.compile(r"no(t proved| proof)")
 # A goal that no proof was found of, before the line of its function, and what is wrong in a proof file.
 GOAL = re.compile(r"note: \S+: (it is not proved .*) \(`(\S+)`\)")
 FAULT = re.compile(r"(?:note: )?(?:\./)?proofs/(\S+)/([A-Z]\w*)\.antt:\d+:\d+: (?:error: )?(?:`([^`]*)`: )?(.*)")
+# What begins a line of the prover's: what does not goes on with the line before it.
+BEGINS = re.compile(r"(?:note|help|warning): |(?:\./)?[\w/+-]+\.(?:rt|antt):\d+:\d+: |(?:fn|struct|enum|const|impl|crate|logic|statements) |[\w-]+=|\s*$")
 # As rt must-fail tells a proof file that names what the edit took away, and what cites that proof.
 NAMES = re.compile(r"has no field|is not in scope|has no `|was not admitted")
 ALONE = ("names", "safety")
@@ -139,6 +141,17 @@ def path_of(file, owner, name):
     return [*([owner] if owner else module_of(file)), name]
 
 
+def whole_lines(output):
+    """The lines of a check, each with those that go on with it."""
+    whole = []
+    for line in output.split("\n"):
+        if whole and FAULT.match(whole[-1]) and not BEGINS.match(line):
+            whole[-1] += f" {line.strip()}"
+        else:
+            whole.append(line)
+    return whole
+
+
 class Said:
     """What a check says: of each function a line, the goals that were not proved, and what is wrong in its proof files."""
 
@@ -146,7 +159,7 @@ class Said:
         self.words, self.goals, self.faults = {}, {}, {}
         self.is_read = False
         noted = []
-        for line in output.split("\n"):
+        for line in whole_lines(output):
             self.is_read = self.is_read or bool(STATUS.match(line))
             if goal := GOAL.match(line):
                 noted.append((goal[2], goal[1]))

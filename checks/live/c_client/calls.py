@@ -122,6 +122,17 @@ def check_errors(programs, l4d, room):
     began = time.time()
     want(say.ask(f"connect_wait 300000 {nowhere} 1 2 1"), r"^F10: .*No such file")
     assert time.time() - began > 0.29, "it was not waited for"
+    # a folder where somebody takes each connection and closes it, as an l4d that has no worker for it
+    shut = tempfile.mkdtemp(dir=room)
+    with socket.socket(socket.AF_UNIX) as listener:
+        listener.bind(os.path.join(shut, "space1"))
+        listener.listen(8)
+        listener.settimeout(SECONDS)
+        for asked in (f"connect {shut} 1 2 1", f"connect_wait 0 {shut} 1 2 1"):
+            say.tell(asked)
+            listener.accept()[0].close()
+            why = "before WELCOME: l4d has no memory or no worker for it, as it says on its standard error, or it ends"
+            want(say.hear(), rf"^F9: the connection ended {why} \({shut}/space1\)$")
     # a folder where somebody listens and never answers, and one whose queue is full
     for backlog in (8, 0):
         deaf = tempfile.mkdtemp(dir=room)

@@ -77,10 +77,17 @@ def check_names(programs, l4d, l4sh, room, start):
             assert got == wanted, (got, wanted)
 
         want(ask(one, "lookup a"), ("0", 3, "N6: there is no name server (a)"))
-        for asked in ("register ", "lookup ", "lookup_wait 1000000 "):
+        for asked in ("register ", "register_wait 1000000 ", "lookup ", "lookup_wait 1000000 "):
             want(ask(one, asked)[1:], (22, "N2: a name has 1 to 64 bytes of printable ASCII without the space"))
+        began = time.time()
+        want(ask(one, "register_wait 200000 echo"), ("-1", 3, "N6: there is no name server (echo)"))
+        assert time.time() - began > 0.19, "nothing was waited for"
+        one.tell("register_wait 20000000 echo")
+        time.sleep(0.1)
         names = start(server.path)
-        want(ask(one, "register echo")[:2], ("0", 0))
+        want(one.hear()[0], "0")
+        want(ask(one, "register echo")[0], "0")
+        want(ask(two, "register_wait 20000000 echo"), ("-1", 98, "REFUSED N3: another live thread has the name (echo)"))
         want(ask(two, "lookup echo")[:2], (f"{one.thread:x}", 0))
         want(ask(two, "lookup Echo"), ("0", 2, "N7: no live thread has the name (Echo)"))
         want(ask(two, "register echo"), ("-1", 98, "REFUSED N3: another live thread has the name (echo)"))
@@ -128,9 +135,14 @@ def stopped_look_ups(asker, process):
             asker.tell("lookup_wait 1000000 echo")
             assert select.select([asker.process.stdout], [], [], 5)[0], "a look up of 1 second has not ended after 5"
             assert asker.hear()[1:] == (2, "N7: no live thread has the name (echo)") and time.time() - began > 0.9
+        began = time.time()
+        asker.tell("register_wait 1000000 echo")
+        assert select.select([asker.process.stdout], [], [], 5)[0], "a registration of 1 second has not ended after 5"
+        answer, number, words = asker.hear()
+        assert (answer, number) == ("-1", 5) and "255.2: timeout" in words and time.time() - began > 0.9, (answer, number, words)
     finally:
         os.kill(process.pid, signal.SIGCONT)
-    return 2
+    return 3
 
 
 def check_names_again(programs, l4d, room, start):

@@ -13,8 +13,12 @@ from python_client.seeing import Encoded, Message, Server, ThreadId, aio, beside
 
 def refusals(server):
     with server.thread(60) as thread:
-        told("K1 of 0", lambda: server.thread(0), l4ipc.Refused, number=1)
-        told("K1 of 1024", lambda: server.thread(1024), l4ipc.Refused, number=1)
+        for number in (0, 1024, -1, 1 << 16):
+            error = raised(lambda: server.thread(number))
+            check(f"no number is {number}", type(error) is ValueError and str(error) == f"number: {number} is not from 1 to 1023", repr(error))
+        with socket.socket(socket.AF_UNIX) as line:
+            line.connect(f"{server.folder}/space1")
+            told("K1 of 0, over a connection", lambda: l4ipc.Thread.over(line, 0), l4ipc.Refused, number=1)
         told("K2", lambda: server.thread(60), l4ipc.Refused, number=2)
         check("K2 tells what waits for it", "it was not waited for (wait_for=)" in str(raised(lambda: server.thread(60))))
         check("the thread goes on", raised(lambda: thread.sleep(0)) is None)

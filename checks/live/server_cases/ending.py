@@ -41,6 +41,25 @@ def signals():
     return f"closed, status 0, path removed and trace whole after {spent * 1000:.0f} ms; where they are not blocked, status 143 at once"
 
 
+def paths_of_others():
+    """What somebody else put at a path meanwhile stays, a file and the path of another server."""
+    block = lambda: signal.pthread_sigmask(signal.SIG_BLOCK, (signal.SIGTERM,))
+    with served(preexec_fn=block) as server:
+        os.remove(server.path)
+        with open(server.path, "w") as file:
+            file.write("kept")
+        server.process.send_signal(signal.SIGTERM)
+        assert server.end()[:2] == (0, "closed\n") and open(server.path).read() == "kept"
+        os.remove(server.path)
+    with served("--no-control", preexec_fn=block) as first:
+        os.remove(first.path)
+        with served("--no-control", folder=first.folder) as second:
+            first.process.send_signal(signal.SIGTERM)
+            assert first.end()[:2] == (0, "closed\n")
+            pair_works((Client(second.path, 1), Client(second.path, 2)))
+    return "a file, and the path of a server that was started behind it"
+
+
 class Terminal:
     """A terminal of its own in which l4d was started as ./l4d does it, and has said that it listens."""
 

@@ -19,6 +19,8 @@ DESCRIPTORS, STRANGERS, SILENT = 64, 10_000, 1
 MOST_CONNECTIONS = MAX_CONNECTIONS + 1
 # How many tasks a server may have that gets no further worker.
 TASKS = 12
+# The bytes of a worker's stack, and more addresses than a server takes that was not compiled to find faults of memory.
+STACK, MOST_ADDRESSES = 1 << 18, 1 << 40
 
 
 def strangers():
@@ -151,20 +153,29 @@ def closed_path():
 
 
 def few_tasks():
-    """A server that may start no further worker closes the connection, tells it once, and serves on."""
+    """A server that may start no further worker closes the connection, says why and what helps, with --log each time, and serves on."""
     if not shutil.which("prlimit") or os.getuid() != 0:
         return "left out: prlimit and root are wanted"
+    if not shutil.which("setpriv"):
+        return "left out: setpriv is wanted"
+    # of one of the two it is the first worker of a connection that cannot be started, of the other one the second
+    for tasks in (TASKS, TASKS + 1):
+        for log in ((), ("--log",)):
+            said = few_tasks_of(tasks, log)
+    return said
+
+
+def few_tasks_of(tasks, log):
+    """The same, with so many tasks."""
     with tempfile.TemporaryDirectory() as folder:
         os.chmod(folder, 0o777)
         # the limit counts all tasks of a user: one whom nobody else is
         user = 54_321
-        run_as = ["prlimit", f"--nproc={TASKS}", "setpriv", f"--reuid={user}", f"--regid={user}", "--clear-groups"]
-        if not shutil.which("setpriv"):
-            return "left out: setpriv is wanted"
+        run_as = ["prlimit", f"--nproc={tasks}", "setpriv", f"--reuid={user}", f"--regid={user}", "--clear-groups"]
         place = f"{folder}/l4d"
         shutil.copy(PROGRAM, place)
         os.chmod(place, 0o755)
-        process = subprocess.Popen([*run_as, place, "--dir", folder, "--spaces", "1"], stdin=subprocess.DEVNULL, stdout=subprocess.PIPE, stderr=subprocess.PIPE)
+        process = subprocess.Popen([*run_as, place, "--dir", folder, "--spaces", "1", *log], stdin=subprocess.DEVNULL, stdout=subprocess.PIPE, stderr=subprocess.PIPE)
         try:
             assert process.stdout.readline() == b"listening 1\n", process.communicate()
             clients, refused = [], 0
@@ -183,7 +194,46 @@ def few_tasks():
         finally:
             process.kill()
         err = process.communicate()[1].decode()
-        return f"{len(clients)} served, {refused} closed, and served again once there was room; {err.strip() or 'nothing told'}"
+        told = turned_away(err)
+        assert len(told) == (refused if log else 1), (refused, err)
+        return f"{len(clients)} served, {refused} closed, and served again once there was room; {told[0]}"
+
+
+def turned_away(err):
+    """The lines of connections that got no worker, or no memory."""
+    lines = [line for line in err.splitlines() if line.startswith("l4d: a connection of space 1 is closed, since there is no ")]
+    for line in lines:
+        has(line, " for it", " connections are there: ", "`ulimit -v`", "`ulimit -u`", "LimitAS=", "TasksMax=")
+        assert "would block" not in line, line
+    return lines
+
+
+def little_memory():
+    """A server whose address space has no room for one more stack closes the connection, says why, and serves on; its clients are told whom to ask."""
+    with served() as server:
+        there = Client(server.path, 1), Client(server.path, 2)
+        with open(f"/proc/{server.process.pid}/status") as file:
+            size = next(int(line.split()[1]) * 1024 for line in file if line.startswith("VmSize:"))
+        if size > MOST_ADDRESSES:
+            return "left out: this program was compiled to find faults of memory, and takes all addresses"
+        closed = 0
+        # with room for no worker, and with room for one of the two
+        for more in (0, STACK + STACK // 2):
+            resource.prlimit(server.process.pid, resource.RLIMIT_AS, (size + more, resource.RLIM_INFINITY))
+            for number in range(3, 8):
+                try:
+                    Client(server.path, number, seconds=5).line.close()
+                except (EOFError, ConnectionResetError, BrokenPipeError):
+                    closed += 1
+        assert closed, "each connection was served"
+        pair_works(there)
+        resource.prlimit(server.process.pid, resource.RLIMIT_AS, (resource.RLIM_INFINITY, resource.RLIM_INFINITY))
+        pair_works((there[0], Client(server.path, 100)))
+        server.process.kill()
+        err = server.process.communicate()[1].decode()
+        told = turned_away(err)
+        assert len(told) == 1, (closed, err)
+        return f"{closed} closed; {told[0]}"
 
 
 def full():

@@ -49,9 +49,29 @@ def paths():
                 assert "in use" in run("--dir", server.folder, "--spaces", "1")[2]
             Client(server.path, 1).line.close()
             assert server.end()[:2] == (0, "closed\n")
+        told = run("--dir", server.folder, "--spaces", "1", "--trace", "")
+        assert told == (2, "", "l4d: --trace: wanted is the path of a file; not an empty word\n"), told
         assert run("--dir", "", "--spaces", "1")[0] == 2
         has(run("--dir", "", "--spaces", "1")[2], "--dir", "folder")
         return "in use, stale, replaced, no socket, no folder, a file as folder, too long, empty"
+
+
+def output():
+    """Where standard output takes nothing the second line names it, and why."""
+    for device, why in (("/dev/full", "No space left on device (os error 28)"), (None, "Broken pipe (os error 32)")):
+        for words in (("help",), ("--version",), ("--spaces", "1")):
+            with tempfile.TemporaryDirectory() as folder:
+                if device:
+                    taken = os.open(device, os.O_WRONLY)
+                else:
+                    ours, taken = os.pipe()
+                    os.close(ours)
+                words = ["--dir", folder, *words] if words[0] == "--spaces" else words
+                told = subprocess.run([PROGRAM, *words], stdin=subprocess.DEVNULL, stdout=taken, stderr=subprocess.PIPE, text=True, timeout=20)
+                os.close(taken)
+                assert (told.returncode, told.stderr) == (1, f"l4d: device failed\n  standard output: {why}\n"), (words, told)
+                assert not os.path.exists(f"{folder}/space1"), words
+    return told.stderr.strip()
 
 
 def as_nobody(folder):

@@ -117,6 +117,8 @@ static void append_number(struct text *text, const struct failure *failure)
 	/* what the system said tells more than its number here */
 	if (failure->saved_errno != meaning->saved_errno)
 		append(text, ": %s", strerror(failure->saved_errno));
+	if (failure->hint != NULL)
+		append(text, " %s", failure->hint);
 	if (failure->about != NULL)
 		append(text, " (%s)", failure->about);
 }

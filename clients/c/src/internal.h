@@ -60,6 +60,8 @@ struct failure {
 	int saved_errno;
 	/* what stands behind the text: a path or a name, or NULL */
 	const char *about;
+	/* what that means where it happened, or NULL */
+	const char *hint;
 	/* of an outcome: the partner of the phase that failed, and which string of the message did not fit, from 1 on, or 0 */
 	L4_ThreadId_t partner;
 	unsigned string;

@@ -163,6 +163,16 @@ static bool is_not_there_yet(const struct failure *failure)
 	       || (failure->class == 'N' && (failure->number == N_NO_NAME_SERVER || failure->number == N_NOBODY_HAS_NAME));
 }
 
+/* How long each phase of a request may take, so that both together end by this moment. */
+static L4_Time_t half_until(int64_t until)
+{
+	L4_Word64_t left = l4_microseconds(l4_time_until(until));
+
+	if (until == INT64_MAX)
+		return L4_Never;
+	return L4_TimePeriod(left / 2 > LEAST_TRY ? left / 2 : LEAST_TRY);
+}
+
 /* Keeps a name that was registered. */
 static void keep(struct kept *kept, const char *name)
 {
@@ -182,6 +192,21 @@ int l4_register(const char *name)
 	struct answer answer = { 0 };
 
 	if (ask(REGISTER, name, L4_Never, &answer) < 0)
+		return -1;
+	keep(&l4_thread.kept, name);
+	return 0;
+}
+
+int l4_register_wait(const char *name, L4_Time_t patience)
+{
+	int64_t until = l4_end_of(patience);
+	struct answer answer = { 0 };
+	int status;
+
+	do
+		status = ask(REGISTER, name, half_until(until), &answer);
+	while (status < 0 && is_not_there_yet(&l4_thread.last) && l4_pause(until));
+	if (status < 0)
 		return -1;
 	keep(&l4_thread.kept, name);
 	return 0;
@@ -221,16 +246,6 @@ static L4_ThreadId_t look_up(const char *name, L4_Time_t patience)
 	if (L4_IsNilThread(answer.thread))
 		(void) l4_refuse(&l4_thread, FOUND_HERE, 'N', N_NOBODY_HAS_NAME);
 	return answer.thread;
-}
-
-/* How long each phase of a request may take, so that both together end by this moment. */
-static L4_Time_t half_until(int64_t until)
-{
-	L4_Word64_t left = l4_microseconds(l4_time_until(until));
-
-	if (until == INT64_MAX)
-		return L4_Never;
-	return L4_TimePeriod(left / 2 > LEAST_TRY ? left / 2 : LEAST_TRY);
 }
 
 L4_ThreadId_t l4_lookup_wait(const char *name, L4_Time_t patience)

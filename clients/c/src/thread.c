@@ -28,6 +28,9 @@ enum {
 	PAUSE = 20,
 };
 
+/* what it means that the connection ended before the thread was live */
+#define TURNED_AWAY "before WELCOME: l4d has no memory or no worker for it, as it says on its standard error, or it ends"
+
 /* A thread that returns without l4_disconnect ends its connection too: the key's value is the thread. */
 static pthread_key_t ending_key;
 static pthread_once_t prepared_once = PTHREAD_ONCE_INIT;
@@ -244,6 +247,12 @@ static int hello(struct thread *thread, unsigned number, int64_t until)
 	return 0;
 }
 
+/* Whether the connection ended before the thread was live. */
+static bool is_turned_away(const struct failure *failure)
+{
+	return failure->class == 'F' && failure->number == F_UNFINISHED;
+}
+
 /* One try to connect. What fails is told of the path. */
 static int try_to_connect(struct thread *thread, const struct sockaddr_un *address, unsigned number, unsigned version, int64_t until)
 {
@@ -266,16 +275,18 @@ static int try_to_connect(struct thread *thread, const struct sockaddr_un *addre
 		return 0;
 	l4_close(thread);
 	thread->last.about = thread->lost.about = thread->path;
+	if (is_turned_away(&thread->last))
+		thread->last.hint = thread->lost.hint = TURNED_AWAY;
 	errno = thread->last.saved_errno;
 	return -1;
 }
 
-/* Whether what failed may be mended by waiting: nobody listens yet, or the thread that had the number ends. */
+/* Whether what failed may be mended by waiting: nobody listens yet, there is no room, or the thread that had the number ends. */
 static bool may_come(const struct failure *failure)
 {
 	if (failure->class == 'F' && failure->number == F_DEVICE)
 		return failure->saved_errno == ENOENT || failure->saved_errno == ECONNREFUSED;
-	return failure->class == 'K' && failure->number == K_NUMBER_TAKEN;
+	return is_turned_away(failure) || (failure->class == 'K' && failure->number == K_NUMBER_TAKEN);
 }
 
 /* Connects, and tries again until this moment. An answer is waited for until then too, and for so many milliseconds. */

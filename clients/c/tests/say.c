@@ -6,7 +6,7 @@
  *     exreg DEST CONTROL
  *     mrs I WORDS, brs I WORDS          loads registers; I is decimal
  *     send TO, wait                     sends, or accepts, what the registers say
- *     register NAME, lookup NAME, list NAME
+ *     register NAME, register_wait MICROSECONDS NAME, lookup NAME, list NAME
  *     serve                             answers by the label what cannot be sent (1, 2, 3), and ends by label 9
  *     begin, readable, end              a wait in two parts, and whether its outcome has begun to come
  *     connect_wait MICROSECONDS DIR SPACE NUMBER VERSION, lookup_wait MICROSECONDS NAME, call_wait MICROSECONDS TO
@@ -475,6 +475,8 @@ static void run(char *line)
 		list(line);
 	else if (strcmp(command, "connect_wait") == 0)
 		connect_wait(line);
+	else if (strcmp(command, "register_wait") == 0)
+		printf("%d", l4_register_wait(strchr(line, ' ') + 1, period(line)));
 	else if (strcmp(command, "lookup_wait") == 0)
 		printf("%llx", (unsigned long long) l4_lookup_wait(strchr(line, ' ') + 1, period(line)).raw);
 	else if (strcmp(command, "call_wait") == 0)

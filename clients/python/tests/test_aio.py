@@ -141,6 +141,48 @@ class Aio(unittest.TestCase):
         came, frames = scripted(b"", does)
         self.assertEqual((came, [frame[4] for frame in frames]), (True, [1, 2, 4]))
 
+    def test_a_call_that_is_open_ends_with_its_thread(self):
+        makes = [lambda it: it.wait(), lambda it: it.serve(lambda _: None, tell=lambda *_: None), lambda it: it.sleep(9), lambda it: it.call(FIRST)]
+        ends = [lambda it: it.aclose(), lambda it: asyncio.get_running_loop().run_in_executor(None, time.sleep, it.close() or 0)]
+
+        async def main(folder, make, end):
+            turns = []
+            ticking = asyncio.ensure_future(ticks(turns))
+            async with aio.Thread(folder, 2) as thread:
+                call = asyncio.ensure_future(make(thread))
+                await asyncio.sleep(0.05)
+                del turns[:]
+                await end(thread)
+                came = await asyncio.gather(asyncio.wait_for(call, 5), return_exceptions=True)
+                ticking.cancel()
+                return type(came[0]), len(turns)
+
+        for make in makes:
+            for end in ends:
+                with Listener([WELCOME]) as there, patience(0.3):
+                    came, turns = asyncio.run(main(there.listens().folder, make, end))
+                self.assertEqual(came, type(None) if make is makes[1] else l4ipc.Closed)
+                if end is ends[0]:  # nobody else is held up
+                    self.assertGreater(turns, 5)
+
+    def test_a_call_that_is_open_reads_the_end_of_its_thread(self):
+        async def main(there):
+            async with aio.Thread(there.listens().folder, 2) as thread:
+                call = asyncio.ensure_future(thread.wait())
+                await asyncio.sleep(0.05)
+                enders.append(Ender(there.accepted(), 0.1))
+                began = time.monotonic()
+                await thread.aclose()
+                return type((await asyncio.gather(call, return_exceptions=True))[0]), time.monotonic() - began
+
+        enders = []
+        with Listener([WELCOME]) as there, patience(10):
+            came, seconds = asyncio.run(main(there))
+            self.assertTrue(enders[0].has_ended)
+            enders[0].worker.join()
+        self.assertEqual(came, l4ipc.Closed)
+        self.assertLess(seconds, 5)
+
     def test_one_call_at_a_time(self):
         async def does(thread):
             first = asyncio.ensure_future(thread.wait())
@@ -186,6 +228,51 @@ class Aio(unittest.TestCase):
                 self.assertEqual(frames[0][1][5:], ThreadId.of(2, 1).to_bytes(8, "big") + (6).to_bytes(8, "big"))
                 _, _, last, _ = frames[1]
                 self.assertEqual((last[5:13], last[13:21]), (FIRST.to_bytes(8, "big"), bytes(8)))
+
+    def test_a_message_that_has_come_as_its_call_is_cancelled(self):
+        async def main(there):
+            async with aio.Thread(there.listens().folder, 1) as canceller, aio.Thread(there.folder, 2, canceller=canceller) as thread:
+                call = asyncio.ensure_future(thread.wait())
+                await asyncio.sleep(0.05)
+                there.kept[1].sendall(WORDS)
+                asyncio.get_running_loop().call_later(0.01, call.cancel)
+                time.sleep(0.1)  # both have come at the next turn of the loop
+                came = await asyncio.gather(asyncio.wait_for(call, 5), return_exceptions=True)
+                received = came[0] if isinstance(came[0], l4ipc.Received) else await asyncio.wait_for(thread.wait(), 5)
+                return received.words
+
+        with Listener([WELCOME + EXREGR, WELCOME]) as there:
+            self.assertEqual(asyncio.run(main(there)), (7, 8))
+
+    def test_a_canceller_that_makes_a_call(self):
+        async def main(there):
+            async with aio.Thread(there.listens().folder, 1) as canceller, aio.Thread(there.folder, 2, canceller=canceller) as thread:
+                serving = asyncio.ensure_future(canceller.wait())
+                await asyncio.sleep(0.05)
+                with self.assertRaises(asyncio.TimeoutError):
+                    await asyncio.wait_for(thread.wait(), 0.05)
+                serving.cancel()
+                return thread.is_closed
+
+        with Listener([WELCOME, WELCOME]) as there:
+            self.assertTrue(asyncio.run(main(there)))
+
+    def test_what_is_no_canceller(self):
+        with self.assertRaises(ValueError):
+            aio.Thread("here", 2, canceller=aio.Thread("here", 1, space=2))
+        with self.assertRaises(TypeError):
+            aio.Thread("here", 2, canceller=7)
+
+    def test_a_canceller_that_is_closed(self):
+        async def main(there):
+            async with aio.Thread(there.listens().folder, 1) as canceller, aio.Thread(there.folder, 2, canceller=canceller) as thread:
+                await canceller.aclose()
+                with self.assertRaises(asyncio.TimeoutError):
+                    await asyncio.wait_for(thread.wait(), 0.05)
+                return thread.is_closed
+
+        with Listener([WELCOME, WELCOME]) as there:
+            self.assertTrue(asyncio.run(main(there)))
 
     def test_a_server(self):
         async def answer(request):
@@ -244,6 +331,21 @@ class Aio(unittest.TestCase):
                     return thread.id, thread.lives
 
             self.assertEqual(asyncio.run(main()), (ThreadId.of(2, 2), 2))
+
+    def test_it_stays_closed_while_it_waits_for_its_server(self):
+        async def main(there):
+            async with aio.Thread(there.listens().folder, 2, reconnect=True) as thread:
+                server = asyncio.ensure_future(thread.serve(lambda _: None, tell=lambda *_: None))
+                await asyncio.sleep(0.05)
+                there.listener.close()
+                there.kept[0].close()
+                await asyncio.sleep(0.05)
+                await thread.aclose()
+                await asyncio.wait_for(server, 5)
+                return thread.is_closed, thread.lives
+
+        with Listener([WELCOME]) as there:
+            self.assertEqual(asyncio.run(main(there)), (True, 1))
 
 
 if __name__ == "__main__":

@@ -128,6 +128,13 @@ class Connecting(unittest.TestCase):
             with Listener([answer]) as there:
                 self.fails(kind, there.listens().folder, wait_for=10)
 
+    def test_a_server_that_closes_the_connection(self):
+        why = "before it answered: it has no memory or no worker for it, as it says on its standard error, or it ends"
+        with Listener([b""], ends=True) as there:
+            self.fails(l4ipc.Closed, there.listens().folder, there.path, why)
+        with Listener([b"", WELCOME], ends=True) as there:
+            Thread(there.listens().folder, 2, wait_for=10).close()
+
     def test_a_server_that_does_not_answer(self):
         began = time.monotonic()
         with Listener([b"", WELCOME[:3]]) as there:
@@ -271,8 +278,9 @@ class WaitingForAPartner(unittest.TestCase):
     def test_what_was_sent_is_not_sent_again(self):
         for code in (0x5, 0x2, 0x3, 0x6, 0x18):
             thread, server = scripted(failed(code) + WORDS)
-            with self.assertRaises(l4ipc.IpcError):
+            with self.assertRaises(l4ipc.IpcError) as caught:
                 thread.call(FIRST, Message(0, [1]), wait_for=10)
+            self.assertNotIn("after waiting", str(caught.exception))
             self.assertEqual(len(said(server)), 2)
             thread.close()
             server.close()

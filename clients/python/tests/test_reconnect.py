@@ -1,10 +1,14 @@
 """A thread that connects again, against a server that a test gives."""
 
+import os
 import socket
+import threading
+import time
 import unittest
+import unittest.mock
 
 import l4ipc
-from l4ipc import Message, Thread, ThreadId
+from l4ipc import Message, Thread, ThreadId, connecting
 
 from .scripted import WELCOME, WORDS, failed, outcome, said
 from .test_connecting import Listener
@@ -62,6 +66,43 @@ class Reconnect(unittest.TestCase):
                     thread.call(FIRST)
                 self.assertIn(there.path, str(caught.exception))
             thread.close()
+
+    def test_it_stays_closed_while_it_waits_for_its_server(self):
+        with Listener([WELCOME]) as there:
+            thread = Thread(there.listens().folder, 2, reconnect=True)
+            server = threading.Thread(target=lambda: thread.serve(lambda _: None, tell=lambda *_: None), daemon=True)
+            server.start()
+            there.worker.join()
+            there.listener.close()
+            there.kept[0].close()
+            time.sleep(0.1)
+            thread.close()
+            with socket.socket(socket.AF_UNIX) as later:
+                os.unlink(there.path)
+                later.bind(there.path)
+                later.listen()
+                server.join(5)
+                later.settimeout(0.4)
+                with self.assertRaises(socket.timeout):
+                    later.accept()
+            self.assertFalse(server.is_alive())
+            self.assertEqual((thread.is_closed, thread.lives), (True, 1))
+
+    def test_it_is_closed_as_its_server_comes_back(self):
+        with Listener([WELCOME, AGAIN]) as there:
+            thread = Thread(there.listens().folder, 2, reconnect=True)
+            there.kept[0].close()
+            connect = connecting.connect
+
+            def closing(*words):
+                came = connect(*words)
+                thread.close()
+                return came
+
+            with unittest.mock.patch.object(connecting, "connect", closing), self.assertRaises(l4ipc.Closed):
+                thread.call(FIRST)
+            self.assertTrue(thread.is_closed)
+            self.assertEqual([frame[4] for frame in said(there.kept[1])], [1, 4])
 
     def test_names_are_registered_again(self):
         registered = failed(0x3) + outcome(1, IN_255, words=(ThreadId.of(2, 1),))

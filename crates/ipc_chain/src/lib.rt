@@ -5,6 +5,7 @@
 mod behind;
 mod chain;
 mod difference;
+mod guide;
 mod same;
 mod verdict;
 mod witness;

@@ -4,9 +4,9 @@ ghost use Rattle.std.specs.Prelude.{IfOk, IsTrue, OnOk};
 ghost use Rattle.ipc_chain.specs.Judging.{IsFirstFile};
 
 use crate::chain::Chain;
+use crate::guide::{Guide, Turn};
 use ipc_compact::Base;
 use ipc_history::Entry;
-use ipc_witness::{Guide, Turn};
 use std::alloc::{AllocError, Global};
 
 /// Looks for a history that ends with this base and these kept entries, behind the empty one;

@@ -34,7 +34,10 @@ impl Counts {
         write!(f, "waited_for_room {waits}\n")?;
         let mut number = 0u8;
         for count in self.refusals {
-            write!(f, "refusals_k{number} {count}\n")?;
+            // K0 is none: it stands for numbers past the last one
+            if number > 0 || count > 0 {
+                write!(f, "refusals_k{number} {count}\n")?;
+            }
             number = number.saturating_add(1);
         }
         Ok(())

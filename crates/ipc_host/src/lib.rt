@@ -19,6 +19,7 @@ mod obstacle;
 mod ready;
 mod signals;
 mod socket;
+mod start;
 mod status;
 mod thread_socket;
 
@@ -36,5 +37,6 @@ pub use obstacle::{Obstacle, obstacle_at};
 pub use ready::Readiness;
 pub use signals::{have_come, may_be_blocked};
 pub use socket::SocketPort;
+pub use start::{NoWords, StandardStreams, tell_no_text, words_of};
 pub use status::{ProcessStatus, field, resident};
 pub use thread_socket::{ThreadSocket, inode_of};

@@ -1,12 +1,13 @@
 -- No line is longer than the limit.
 use Rattle.std.proofs.Common.{◌≡◌, ℕ, ◌+◌, ◌*◌, ◌≤◌, List, [], ◌∷◌, length, arith, length-append}
 use Rattle.ipc_words.specs.Limits.{max_string_bytes}
+use Rattle.ipc_words.specs.Timeouts.{timeouts_of}
 use Rattle.ipc_history.specs.CallParts.{CallParts}
 use Rattle.ipc_history.specs.declared.entry.Entry.{Entry}
 use Rattle.ipc_history.specs.declared.entry.Entry.TheVariants.{Given, Written}
 use Rattle.ipc_history.specs.declared.entry.Input.TheVariants.{At, Opened, Called, Exreg, Broke, Moved}
 use Rattle.ipc_history.specs.declared.entry.Output.TheVariants.{Began, Turned, Ended, Overflowed, Aborted, Failed}
-use Rattle.ipc_lines.specs.Lines.{spaced, timeouts_of, call_fields, entry_fields}
+use Rattle.ipc_lines.specs.Lines.{spaced, call_fields, entry_fields}
 use Rattle.ipc_lines.specs.Reading.{IsWord, IsCall, IsReadable}
 use Rattle.ipc_lines.specs.Limit.{most_bytes, LinesAreWithinTheLimit}
 use Rattle.ipc_lines.proofs.Lengths.{decimal_length, hex_length, id_length, words_length, strings_length, buffers_length}
@@ -27,13 +28,13 @@ spaced_within (field ∷ fields) h = omega (arith, spaced_length field fields)
 
 pub call_room : (thread : ℕ) (call : CallParts) → IsCall thread call → room (call_fields thread call) ≤ 2 * max_string_bytes + 7848
 call_room thread call is =
-    let timeouts : IsWord (timeouts_of call) = omega (arith, is.send_period, is.receive_period) in
+    let timeouts : IsWord (timeouts_of call.receive_period call.send_period) = omega (arith, is.send_period, is.receive_period) in
     omega (
       arith,
       id_length thread is.thread_word,
       id_length call.to is.to,
       id_length call.from is.from,
-      hex_length (timeouts_of call) timeouts,
+      hex_length (timeouts_of call.receive_period call.send_period) timeouts,
       hex_length call.tag is.tag,
       id_length call.originator is.originator,
       words_length call.words is.words (normal_words call is.normal),

@@ -9,6 +9,7 @@ use Rattle.std.proofs.lemmas.List.Elements.{All-head, All-tail, All-weaker, All-
 use Rattle.hex.specs.Hex.{IsBytes, decode_of, encode_lower}
 use Rattle.hex.proofs.HexLemmas.{decode_of-encode_lower, decode_of-same}
 use Rattle.ipc_words.specs.ThreadId.{number_of, version_of}
+use Rattle.ipc_words.specs.Timeouts.{timeouts_of}
 use Rattle.ipc_items.specs.declared.buffer_list.Substring.{Substring}
 use Rattle.ipc_lines.specs.Texts.{hex_text, id_text, listed, words_text, bytes_text, strings_text, substring_text, buffer_text, buffers_text}
 use Rattle.ipc_lines.specs.Reading.{parts_at, IsCall, IsReadable, IsWord, AreWords, IsSubstring, IsBufferList}
@@ -17,7 +18,7 @@ use Rattle.ipc_history.specs.declared.entry.Entry.{Entry}
 use Rattle.ipc_history.specs.declared.entry.Entry.TheVariants.{Given, Written}
 use Rattle.ipc_history.specs.declared.entry.Input.TheVariants.{At, Opened, Called, Exreg, Broke, Moved}
 use Rattle.ipc_history.specs.declared.entry.Output.TheVariants.{Began, Turned, Ended, Overflowed, Aborted, Failed}
-use Rattle.ipc_lines.specs.Lines.{call_fields, timeouts_of, entry_fields, entry_text}
+use Rattle.ipc_lines.specs.Lines.{call_fields, entry_fields, entry_text}
 use Rattle.ipc_lines.specs.Spelling.{EachHasOneLine}
 use Rattle.ipc_lines.proofs.EntryNaming.{at_only, opened_only, called_only, exreg_only, broke_only, moved_only, began_only, turned_only, ended_only, overflowed_only, aborted_only, failed_only}
 use Rattle.ipc_lines.proofs.Spacing.{entry_parts}
@@ -164,7 +165,7 @@ buffers_same None (Some ys) ha hb e = absurd (some_not ys (buffer_rows ys hb) e)
 buffers_same (Some xs) None ha hb e = absurd (some_not xs (buffer_rows xs ha) (sym e))
 buffers_same (Some xs) (Some ys) ha hb e = ap Some (listed_same (codes "s") 44 buffer_text IsRow row_lacks row_same (one_lacks 44 115 (λ q. omega arith)) (row_other 115) xs ys (buffer_rows xs ha) (buffer_rows ys hb) e)
 
-timeouts_word : (call : CallParts) (thread : ℕ) → IsCall thread call → IsWord (timeouts_of call)
+timeouts_word : (call : CallParts) (thread : ℕ) → IsCall thread call → IsWord (timeouts_of call.receive_period call.send_period)
 timeouts_word call thread h = omega (arith, h.send_period, h.receive_period)
 
 pub call_same : (t u : ℕ) (c d : CallParts) → IsCall t c → IsCall u d → call_fields t c ≡ call_fields u d → (t ≡ u) × (c ≡ d)
@@ -172,7 +173,7 @@ call_same t u c d hc hd e =
     let thread = id_same t u hc.thread_word hd.thread_word (ap (λ fs. get_or fs 0 []) e) in
     let to = id_same c.to d.to hc.to hd.to (ap (λ fs. get_or fs 1 []) e) in
     let from = id_same c.from d.from hc.from hd.from (ap (λ fs. get_or fs 2 []) e) in
-    let timeouts = hex_same (timeouts_of c) (timeouts_of d) (timeouts_word c t hc) (timeouts_word d u hd) (ap (λ fs. get_or fs 3 []) e) in
+    let timeouts = hex_same (timeouts_of c.receive_period c.send_period) (timeouts_of d.receive_period d.send_period) (timeouts_word c t hc) (timeouts_word d u hd) (ap (λ fs. get_or fs 3 []) e) in
     let send : c.send_period ≡ d.send_period = omega (arith, timeouts, hc.send_period, hc.receive_period, hd.send_period, hd.receive_period) in
     let receive : c.receive_period ≡ d.receive_period = omega (arith, timeouts, hc.send_period, hc.receive_period, hd.send_period, hd.receive_period) in
     let tag = hex_same c.tag d.tag hc.tag hd.tag (ap (λ fs. get_or fs 4 []) e) in

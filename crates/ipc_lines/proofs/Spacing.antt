@@ -13,11 +13,12 @@ use Rattle.ipc_history.specs.declared.entry.Entry.{Entry}
 use Rattle.ipc_history.specs.declared.entry.Entry.TheVariants.{Given, Written}
 use Rattle.ipc_history.specs.declared.entry.Input.TheVariants.{At, Opened, Called, Exreg, Broke, Moved}
 use Rattle.ipc_history.specs.declared.entry.Output.TheVariants.{Began, Turned, Ended, Overflowed, Aborted, Failed}
-use Rattle.ipc_lines.specs.Lines.{spaced, call_fields, timeouts_of, entry_fields, entry_text}
+use Rattle.ipc_lines.specs.Lines.{spaced, call_fields, entry_fields, entry_text}
 use Rattle.ipc_lines.specs.Reading.{parts_at, IsCall, IsBufferList, IsSubstring, IsReadable}
 use borrow.Author.Tests.{ltb-true}
 use Rattle.ipc_lines.proofs.ListTexts.{Lacks, AllLack, lack_nil, lack_cons, parts_join}
 use Rattle.ipc_lines.proofs.High.{lacks, decimal_high, hex_high, id_high, words_high, strings_high, buffers_high}
+use Rattle.ipc_words.specs.Timeouts.{timeouts_of}
 
 buffers_apart : (buffers : Option (List (List Substring))) → IfSome buffers IsBufferList → IfSome buffers (λ list. All (λ parts. All IsSubstring parts) list)
 buffers_apart None h = tt
@@ -41,7 +42,7 @@ module _ (s : ℕ) (low : s < 43) where
 
   pub call_lacks : (thread : ℕ) (call : CallParts) → IsCall thread call → AllLack s (call_fields thread call)
   call_lacks thread call is =
-      lack_cons _ _ (id_lacks thread) (lack_cons _ _ (id_lacks call.to) (lack_cons _ _ (id_lacks call.from) (lack_cons _ _ (hex_lacks (timeouts_of call)) (lack_cons _ _ (hex_lacks call.tag) (lack_cons _ _ (id_lacks call.originator)
+      lack_cons _ _ (id_lacks thread) (lack_cons _ _ (id_lacks call.to) (lack_cons _ _ (id_lacks call.from) (lack_cons _ _ (hex_lacks (timeouts_of call.receive_period call.send_period)) (lack_cons _ _ (hex_lacks call.tag) (lack_cons _ _ (id_lacks call.originator)
       (lack_cons _ _ (lacks s 44 (words_text call.words) (omega arith) (words_high call.words is.words))
       (lack_cons _ _ (lacks s 44 (strings_text call.strings) (omega arith) (strings_high call.strings is.strings.1))
       (lack_cons _ _ (lacks s 43 (buffers_text call.buffers) (omega arith) (buffers_high call.buffers (buffers_apart call.buffers is.buffers))) lack_nil))))))))

@@ -10,9 +10,10 @@ use Rattle.ipc_history.specs.declared.entry.Entry.{Entry}
 use Rattle.ipc_history.specs.declared.entry.Entry.TheVariants.{Given, Written}
 use Rattle.ipc_history.specs.declared.entry.Input.TheVariants.{At, Opened, Called, Exreg, Broke, Moved}
 use Rattle.ipc_history.specs.declared.entry.Output.TheVariants.{Began, Turned, Ended, Overflowed, Aborted, Failed}
-use Rattle.ipc_lines.specs.Lines.{spaced, timeouts_of, entry_text, entry_fields, outcome_text, outcome_fields, placed_in}
+use Rattle.ipc_lines.specs.Lines.{spaced, entry_text, entry_fields, outcome_text, outcome_fields, placed_in}
 use Rattle.ipc_lines.specs.Laws.{LinesHoldNoNewline, LinesSplitIntoFields}
 use Rattle.ipc_lines.proofs.Plain.{is_plain, IsPlain, ArePlain, plain_decimal, plain_hex, plain_id, plain_words, plain_strings, plain_buffers, plain_pieces}
+use Rattle.ipc_words.specs.Timeouts.{timeouts_of}
 
 from_not : (b : Bool) → not b ≡ true → b ≡ false
 from_not true h = sym h
@@ -92,7 +93,7 @@ plain_entry (Given (Called number thread call)) = (
         (
           plain_id call.from,
           (
-            plain_hex (timeouts_of call),
+            plain_hex (timeouts_of call.receive_period call.send_period),
             (
               plain_hex call.tag,
               (plain_id call.originator, (plain_words call.words, (plain_strings call.strings, (plain_buffers call.buffers, tt)))),

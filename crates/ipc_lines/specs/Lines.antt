@@ -3,7 +3,6 @@
 use Rattle.std.specs.Prelude.{ℕ, List, [], ◌∷◌, ◌++◌, codes}
 use Rattle.std.specs.Fmt.{decimal}
 use Rattle.std.specs.List.{join_with_byte, flat_map}
-use Rattle.ipc_words.specs.Timeouts as words
 use Rattle.ipc_items.specs.Pieces.{PlacedBytes}
 use Rattle.ipc_history.specs.CallParts.{CallParts}
 use Rattle.ipc_history.specs.Outcomes.{OutcomeParts, pieces_in}
@@ -11,22 +10,19 @@ use Rattle.ipc_history.specs.declared.entry.Entry.{Entry}
 use Rattle.ipc_history.specs.declared.entry.Entry.TheVariants.{Given, Written}
 use Rattle.ipc_history.specs.declared.entry.Input.TheVariants.{At, Opened, Called, Exreg, Broke, Moved}
 use Rattle.ipc_history.specs.declared.entry.Output.TheVariants.{Began, Turned, Ended, Overflowed, Aborted, Failed}
-use Rattle.ipc_lines.specs.Texts.{hex_text, id_text, words_text, strings_text, buffers_text, pieces_text}
+use Rattle.ipc_lines.specs.Texts.{hex_text, id_text, timeouts_text, words_text, strings_text, buffers_text, pieces_text}
 
 -- fields with one space between each two
 abbrev pub spaced : List (List ℕ) → List ℕ
 spaced fields = join_with_byte 32 fields
-
--- the word of the two periods of a call
-abbrev pub timeouts_of : CallParts → ℕ
-timeouts_of call = words.timeouts_of call.receive_period call.send_period
 
 -- the fields of a call that are one word each: the thread that calls, to, from, the timeouts, the
 -- tag and the originator
 abbrev pub scalar_fields : ℕ → CallParts → List (List ℕ)
 scalar_fields thread call =
     id_text thread ∷ id_text call.to ∷ id_text call.from
-    ∷ hex_text (timeouts_of call) ∷ hex_text call.tag ∷ id_text call.originator ∷ []
+    ∷ timeouts_text call.send_period call.receive_period ∷ hex_text call.tag
+    ∷ id_text call.originator ∷ []
 
 -- the words, the strings and the buffers
 abbrev pub list_fields : CallParts → List (List ℕ)

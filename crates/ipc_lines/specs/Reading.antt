@@ -10,7 +10,7 @@ use Rattle.ipc_items.specs.declared.buffer_list.Substring.{Substring}
 use Rattle.ipc_items.specs.Strings.{AreStrings}
 use Rattle.ipc_items.specs.Buffers.{AreBuffers}
 use Rattle.ipc_history.specs.CallParts.{CallParts, is_normal}
-use Rattle.ipc_lines.specs.Texts.{hex_text, id_text}
+use Rattle.ipc_lines.specs.Texts.{hex_text, id_text, timeouts_text}
 use Rattle.ipc_lines.specs.declared.call_reading.Numbers.{Numbers}
 use Rattle.ipc_history.specs.declared.entry.Entry.{Entry}
 use Rattle.ipc_history.specs.declared.entry.Entry.TheVariants.{Given, Written}
@@ -41,7 +41,7 @@ numbers_of thread call = record {
 abbrev pub number_fields : Numbers → List (List ℕ)
 number_fields read =
     id_text read.thread ∷ id_text read.to ∷ id_text read.from
-    ∷ hex_text (read.send_period * 2 ^ 16 + read.receive_period) ∷ hex_text read.tag
+    ∷ timeouts_text read.send_period read.receive_period ∷ hex_text read.tag
     ∷ id_text read.originator ∷ []
 
 -- a thread id that has a name

@@ -6,6 +6,7 @@ use Rattle.std.specs.Fmt.{decimal, digits}
 use Rattle.std.specs.List.{join_with_byte}
 use Rattle.hex.specs.Hex.{encode_lower}
 use Rattle.ipc_words.specs.ThreadId.{nilthread, anythread, anylocalthread, number_of, version_of}
+use Rattle.ipc_words.specs.Timeouts.{timeouts_of}
 use Rattle.ipc_items.specs.declared.buffer_list.Substring.{Substring}
 use Rattle.ipc_items.specs.Pieces.{PlacedBytes}
 
@@ -22,6 +23,10 @@ id_text id =
     else if id == anylocalthread then codes "local"
     else if id % 64 == 0 then hex_text id
     else decimal (number_of id) ++ codes "." ++ decimal (version_of id)
+
+-- the periods of the two phases: HEX of the word of both
+abbrev pub timeouts_text : ℕ → ℕ → List ℕ
+timeouts_text send receive = hex_text (timeouts_of receive send)
 
 -- the texts of the elements with a byte between each two; where there is no element, a text of its
 -- own

@@ -1,6 +1,6 @@
 ghost use Rattle.std.specs.Prelude.{◌≡◌, ℕ, ◌+◌, ◌*◌, ◌^◌, ◌<◌, [], ◌∷◌, Some, IfOk, IfSome};
 ghost use Rattle.std.specs.Option.{IsSomeAnd};
-ghost use Rattle.ipc_lines.specs.Texts.{hex_text, words_text, strings_text, buffers_text};
+ghost use Rattle.ipc_lines.specs.Texts.{timeouts_text, words_text, strings_text, buffers_text};
 ghost use Rattle.ipc_lines.specs.Lines.{call_fields, list_fields, scalar_fields};
 ghost use Rattle.ipc_lines.specs.Reading.{IsCall, number_fields, numbers_of, texts_of};
 ghost use Rattle.ipc_history.specs.CallParts.{CallParts};
@@ -33,13 +33,13 @@ struct Lists {
     buffers: Option<BufferList>,
 }
 
-/// The send period and the receive period of a word of timeouts; `None` where one is a time point,
-/// and for any bytes that are no HEX of 32 bits.
+/// The send period and the receive period that these bytes spell; `None` where one is a time point,
+/// and for any other bytes.
 pub fn read_timeouts(bytes: &[u8]) -> Option<(Period, Period)>
     ensures found { IfSome result (λ periods.
-        bytes.now ≡ hex_text (periods.0 * 2 ^ 16 + periods.1)) }
+        bytes.now ≡ timeouts_text periods.0 periods.1) }
     ensures only { (send receive : ℕ) → send < 2 ^ 15 → receive < 2 ^ 15
-        → bytes.now ≡ hex_text (send * 2 ^ 16 + receive) → result ≡ Some (send, receive) }
+        → bytes.now ≡ timeouts_text send receive → result ≡ Some (send, receive) }
 {
     let word = read_hex(bytes)?;
     let send = Period::from_word(u16::try_from(word / 0x1_0000).ok()?)?;

@@ -1,20 +1,13 @@
 ghost use Rattle.std.specs.Prelude.{◌≡◌, ◌++◌, ◌∷◌, [], OnOk, IfOk};
 ghost use Rattle.std.specs.String.{string_bytes};
-ghost use Rattle.ipc_lines.specs.Texts.{hex_text, id_text};
-ghost use Rattle.ipc_lines.specs.Lines.{timeouts_of, spaced, scalar_fields, list_fields, call_text};
+ghost use Rattle.ipc_lines.specs.Texts.{hex_text, id_text, timeouts_text};
+ghost use Rattle.ipc_lines.specs.Lines.{spaced, scalar_fields, list_fields, call_text};
 
 use crate::lists::{write_buffers, write_strings, write_words};
 use crate::scalars::{USUAL_LINE_BYTES, write_hex, write_id};
 use ipc_history::Call;
 use ipc_words::{ThreadId, Timeouts};
 use std::alloc::{AllocError, Global};
-
-// The word of the two periods.
-fn timeouts(call: &Call) -> u64
-    ensures { result ≡ timeouts_of call.now }
-{
-    u64::from(Timeouts::of(call.receive_period(), call.send_period()).to_word())
-}
 
 // Appends the thread that calls, and those that it sends to and receives from.
 fn write_threads(out: &mut String, caller: ThreadId, call: &Call) -> Result<(), AllocError>
@@ -28,13 +21,22 @@ fn write_threads(out: &mut String, caller: ThreadId, call: &Call) -> Result<(), 
     write_id(out, call.from())
 }
 
+// Appends the two periods of a call.
+fn write_timeouts(out: &mut String, call: &Call) -> Result<(), AllocError>
+    ensures { OnOk result (string_bytes out.new ≡ string_bytes out.old
+        ++ timeouts_text call.now.send_period call.now.receive_period) }
+{
+    let timeouts = Timeouts::of(call.receive_period(), call.send_period());
+    write_hex(out, u64::from(timeouts.to_word()))
+}
+
 // Appends the timeouts, the tag and the originator of a call.
 fn write_terms(out: &mut String, call: &Call) -> Result<(), AllocError>
     ensures { OnOk result (string_bytes out.new ≡ string_bytes out.old
-        ++ spaced (hex_text (timeouts_of call.now) ∷ hex_text call.now.tag
-        ∷ id_text call.now.originator ∷ [])) }
+        ++ spaced (timeouts_text call.now.send_period call.now.receive_period
+        ∷ hex_text call.now.tag ∷ id_text call.now.originator ∷ [])) }
 {
-    write_hex(out, timeouts(call))?;
+    write_timeouts(out, call)?;
     out.push_str(" ")?;
     write_hex(out, call.tag().to_word())?;
     out.push_str(" ")?;

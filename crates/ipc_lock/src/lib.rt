@@ -27,6 +27,7 @@ pub use blank_log::BlankLog;
 pub use ends::{PostEnd, TakeEnd};
 pub use entered::Entered;
 pub use ipc_log::Naming;
+pub use logged::{MarkBook, TickBook};
 pub use not_given::NotGiven;
 pub use part::{Behind, HeldPart};
 pub use post_box::Loaded;

@@ -4,6 +4,7 @@ ghost use Rattle.ipc_lock.specs.Turns.{first_inside};
 ghost use Rattle.ipc_words.specs.Limits.{max_calls, max_entries};
 
 mod boxes;
+mod counted;
 mod gifts;
 mod pens;
 mod reading;
@@ -15,6 +16,7 @@ use crate::events::Event;
 use crate::gift_log::GiftLog;
 use crate::inside::Inside;
 use crate::numbers::Numbers;
+pub use counted::{MarkBook, TickBook};
 use ipc_connection::PenPort;
 use ipc_core::{Limits, Refusal};
 use ipc_log::{Keeper, Naming};

@@ -6,6 +6,7 @@ ghost use Rattle.ipc_server.specs.Services.{ServesAll};
 
 use crate::control::answer_askers;
 use crate::counters::counters_now;
+use crate::lacking::tell_lack;
 use crate::served::Served;
 use crate::services::{AllServed, Services};
 use crate::serving::{Ports, serve_connection, start_worker};
@@ -185,13 +186,14 @@ where
                 Ok(stream) => {
                     taken = taken.saturating_add(1);
                     if let Some(newcomer) = admit(server, host, listener.space, stream) {
-                        let ticket = newcomer.ticket;
+                        let (space, ticket) = (newcomer.space, newcomer.ticket);
                         let started = start_worker(
                             scope,
                             move || serve_guest(server, host, services, newcomer),
                         );
                         if let Err(error) = started {
-                            let_go(rt, host, ticket, error);
+                            host.guests.leave(rt, ticket);
+                            tell_lack(rt, host, space, error);
                         }
                     }
                 }
@@ -211,9 +213,24 @@ struct Newcomer {
     inode: Option<u64>,
 }
 
-/// Takes a connection in, once there is room for it. None: the server stops, or there is no memory;
-/// the connection is then closed.
+/// Takes a connection in, once there is room for it. None: the server stops, or there is no memory,
+/// which is told; the connection is then closed.
 fn admit<C: Naming, T: Ledger, R: Wait + Clock + Eprint>(
+    server: &Server<'_, C, T, SocketPort, R>,
+    host: &Host,
+    space: u64,
+    stream: UnixStream,
+) -> Option<Newcomer> {
+    let newcomer = newcomer_of(server, host, space, stream);
+    if newcomer.is_none() && !host.guests.is_stopping(server.rt) {
+        let error = io::Error::from(ErrorKind::OutOfMemory);
+        tell_lack(server.rt, host, space, error);
+    }
+    newcomer
+}
+
+/// The same, and nothing is told.
+fn newcomer_of<C: Naming, T: Ledger, R: Wait + Clock + Eprint>(
     server: &Server<'_, C, T, SocketPort, R>,
     host: &Host,
     space: u64,
@@ -283,12 +300,6 @@ impl fmt::Display for Waiting {
             Notice::Waits
         )
     }
-}
-
-/// Lets go of a connection for which no worker can be started.
-fn let_go<R: Wait + Clock + Eprint>(rt: &R, host: &Host, ticket: u64, error: io::Error) {
-    host.guests.leave(rt, ticket);
-    host.complain(rt, "no worker for a connection can be started", error);
 }
 
 /// What follows an accept that failed.

@@ -9,6 +9,7 @@ mod caller;
 mod control;
 mod counters;
 mod ending;
+mod lacking;
 mod noted;
 mod probe;
 mod ready;
@@ -24,7 +25,8 @@ mod working;
 use ending::{Ending, ended, status_of};
 use ipc_core::{Limits, MAX_CALLS, MAX_ENTRIES};
 use ipc_host::{
-    ErrorLines, Guests, ProcessStatus, Readiness, ServerClock, SocketPort, descriptors, room,
+    ErrorLines, Guests, NoWords, ProcessStatus, Readiness, ServerClock, SocketPort, descriptors,
+    room, tell_no_text, words_of,
 };
 use ipc_lock::{BlankLog, Naming, SharedKernel};
 use ipc_tracing::{
@@ -44,7 +46,7 @@ use std::sync::atomic::AtomicU64;
 use std::sync::ledger::{Blank, Ledger};
 use std::thread::Threads;
 use std::{io, thread};
-use telling::{asks_help, tell_error, tell_help};
+use telling::{asks_help, tell_error, tell_help, tell_nameless_trace};
 use traced::serve_as_asked;
 
 /// How many parts the ledgers of the seats have.
@@ -65,15 +67,10 @@ const SECOND: u64 = 1_000_000;
 fn main(rt: HostRuntime) -> io::Result<ExitCode> {
     let alloc = rt.alloc();
     match words_of(&rt, alloc) {
-        Some(words) => obey_words(&rt, alloc, &words),
-        None => ended(&rt, &Exit::NoMemory),
+        Ok(words) => obey_words(&rt, alloc, &words),
+        Err(NoWords::NotText) => tell_no_text(&rt, "l4d"),
+        Err(NoWords::Memory) => ended(&rt, &Exit::NoMemory),
     }
-}
-
-/// The words that the program was started with. None where they cannot be had.
-fn words_of(rt: &HostRuntime, alloc: Global) -> Option<Vec<String>> {
-    let words = std::env::args(rt).ok()?;
-    words.collect::<Vec<String>>(alloc).ok()
 }
 
 /// Does what the words ask for, and answers the status of the program.
@@ -116,6 +113,9 @@ where
         + Eprint
         + Sync,
 {
+    if options.trace == Some("") {
+        return tell_nameless_trace(rt);
+    }
     let readiness = Readiness::of(rt, options.ready_fd);
     if let Some(fd) = readiness.fault() {
         return ended(rt, &Exit::NoReadyDescriptor(fd));
@@ -224,7 +224,7 @@ where
             let server = Server::new(rt, alloc, shared, clock);
             listen_and_serve(&server, options, readiness, services)
         }
-        Err(error) => Ending::Failed(Exit::from(error)),
+        Err(error) => Ending::Failed(Exit::of_clock(error)),
     }
 }
 
@@ -345,7 +345,7 @@ fn closed<C: Naming, R: Print>(rt: &R, ending: Ending<C>) -> Ending<C> {
     }
     match println!(rt; "closed") {
         Ok(()) => ending,
-        Err(error) => Ending::Failed(Exit::from(error)),
+        Err(error) => Ending::Failed(Exit::of_output(error)),
     }
 }
 

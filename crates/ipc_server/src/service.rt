@@ -59,7 +59,7 @@ where
 {
     let rt = server.rt;
     if !host.guests.is_stopping(rt) {
-        println!(rt; "listening {}", options.spaces)?;
+        println!(rt; "listening {}", options.spaces).map_err(Exit::of_output)?;
         tell_ready(rt, server.alloc, host, options.spaces);
         if host.is_logged {
             tell_paths(rt, &host.listeners);

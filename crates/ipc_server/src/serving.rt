@@ -18,11 +18,11 @@ use ipc_lock::{Loaded, Naming, PostEnd, TakeEnd};
 use ipc_session::{Gate, read_loop};
 use ipc_tracing::Server;
 use ipc_words::ThreadId;
+use std::io::{self, ErrorKind};
 use std::rt::Clock;
 use std::sync::ledger::Ledger;
 use std::sync::{Mutex, Wait};
-use std::thread::{Scope, Threads};
-use std::{io, thread};
+use std::thread::{self, Scope, Threads};
 
 /// How much stack a worker has, in bytes.
 const STACK: usize = 262_144;
@@ -44,6 +44,9 @@ pub trait Link {
 
     /// It is told this, as the thread that it is, if any.
     fn tells(&self, notice: Notice, thread: Option<ThreadId>);
+
+    /// It is closed, since this failed that serving it takes.
+    fn lacks(&self, error: io::Error);
 }
 
 /// The ports of a connection to a space, and the link that they stand on: as the gate of the loop
@@ -86,11 +89,11 @@ struct Reading<I: PortRead, G: Gate + Link> {
 }
 
 /// Serves one connection to its end: reads in this thread, and in one that it starts writes what no
-/// other thread could. Where that cannot be started, or there is no memory for a box, the link is
-/// shut down. What came asked for what was asked, and each of that was done by the connection's own
-/// end, of which the one log of the kernel says nothing else. The port to which was written comes
-/// back where the connection had a box: what went out is what the log says that it was given. It is
-/// then among those that were served.
+/// other thread could. Where that cannot be started, or there is no memory for a box, that is told,
+/// and the link is shut down. What came asked for what was asked, and each of that was done by the
+/// connection's own end, of which the one log of the kernel says nothing else. The port to which
+/// was written comes back where the connection had a box: what went out is what the log says that
+/// it was given. It is then among those that were served.
 pub fn serve_connection<C, T, P, R, I, G>(
     server: &Server<'_, C, T, P, R>,
     services: &Mutex<Services<C, P>>,
@@ -129,7 +132,10 @@ where
                 .check_in(server, &note, posts, &served);
             (served, port)
         }
-        Err(_) => (turn_away(reading), None),
+        Err(_) => {
+            reading.reads.lacks(io::Error::from(ErrorKind::OutOfMemory));
+            (turn_away(reading), None)
+        }
     }
 }
 
@@ -173,11 +179,11 @@ where
             ensures { ReadsBy P (I.came reading.reader) (I.came result.1.reader) posts result.0
                 result.1.asked }
         {
-            let is_started = start_worker(
-                scope,
-                move || write_to_the_end(server, takes, writes),
-            ).is_ok();
-            read_if(is_started, server, posts, reading)
+            let started = start_worker(scope, move || write_to_the_end(server, takes, writes));
+            if let Err(error) = &started {
+                reading.reads.lacks(*error);
+            }
+            read_if(started.is_ok(), server, posts, reading)
         },
     )
 }

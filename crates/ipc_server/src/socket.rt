@@ -1,21 +1,23 @@
 //! The socket of a connection, as the link of its ports.
 ghost use Rattle.std.specs.Prelude.{◌≡◌, ◌<◌};
 
+use crate::lacking::tell_lack;
 use crate::serving::Link;
 use ipc_host::Notice;
 use ipc_session::Gate;
 use ipc_tracing::Host;
 use ipc_words::ThreadId;
-use std::fmt;
 use std::net::Shutdown;
 use std::os::unix::net::UnixStream;
+use std::rt::Clock;
 use std::sync::Wait;
 use std::sync::atomic::{AtomicBool, Ordering};
+use std::{fmt, io};
 
 /// A connection that is there. What it is told is counted, and said on standard error where that is
 /// asked for.
 #[derive(Drop)]
-pub struct Guest<'a, R: Wait + Eprint> {
+pub struct Guest<'a, R: Wait + Clock + Eprint> {
     pub(crate) rt: &'a R,
     pub(crate) host: &'a Host,
     pub(crate) space: u64,
@@ -26,7 +28,7 @@ pub struct Guest<'a, R: Wait + Eprint> {
     pub(crate) soon: &'a AtomicBool,
 }
 
-impl<R: Wait + Eprint> Guest<'_, R> {
+impl<R: Wait + Clock + Eprint> Guest<'_, R> {
     /// Says on standard error what it is told, as the thread that it is, or as none.
     fn tell(&self, notice: Notice, thread: Option<ThreadId>) {
         let told = ToldGuest {
@@ -66,14 +68,14 @@ impl fmt::Display for ToldGuest {
 /// A socket as the link of its ports, and as the gate of a loop over it. It says stop after 2^64 -
 /// 1 turns, which no run has.
 #[derive(Drop)]
-pub struct SocketGate<'a, R: Wait + Eprint> {
+pub struct SocketGate<'a, R: Wait + Clock + Eprint> {
     stream: &'a UnixStream,
     guest: &'a Guest<'a, R>,
     turns: u64,
     stopped: bool,
 }
 
-impl<'a, R: Wait + Eprint> SocketGate<'a, R> {
+impl<'a, R: Wait + Clock + Eprint> SocketGate<'a, R> {
     /// The gate of a loop that begins.
     pub fn new(stream: &'a UnixStream, guest: &'a Guest<'a, R>) -> SocketGate<'a, R> {
         SocketGate {
@@ -85,7 +87,7 @@ impl<'a, R: Wait + Eprint> SocketGate<'a, R> {
     }
 }
 
-impl<R: Wait + Eprint> Gate for SocketGate<'_, R> {
+impl<R: Wait + Clock + Eprint> Gate for SocketGate<'_, R> {
     ghost left = { λ gate. gate.turns };
 
     ghost stopped = { λ gate. gate.stopped };
@@ -100,7 +102,7 @@ impl<R: Wait + Eprint> Gate for SocketGate<'_, R> {
     }
 }
 
-impl<R: Wait + Eprint> Link for SocketGate<'_, R> {
+impl<R: Wait + Clock + Eprint> Link for SocketGate<'_, R> {
     fn stop_reading(&self) {
         let _ = self.stream.shutdown(Shutdown::Read);
     }
@@ -142,5 +144,16 @@ impl<R: Wait + Eprint> Link for SocketGate<'_, R> {
             }
             _ => {}
         }
+    }
+
+    #[inline(never)]
+    fn lacks(&self, error: io::Error) {
+        let Guest {
+            rt,
+            host,
+            space,
+            ..
+        } = *self.guest;
+        tell_lack(rt, host, space, error);
     }
 }

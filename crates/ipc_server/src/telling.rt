@@ -8,6 +8,9 @@ use std::io;
 use std::process::ExitCode;
 use std::rt::Files;
 
+/// The status of bad words, and of a request for help.
+const BAD_WORDS: u8 = 2;
+
 /// Whether the words are the command `help`.
 pub(crate) fn asks_help(words: &[String]) -> bool {
     words.len() == 2 && words[1].as_str() == "help"
@@ -37,11 +40,16 @@ fn tell_help_of<R: Print + Eprint>(
     words: &[String],
 ) -> io::Result<ExitCode> {
     match server_options(alloc, words) {
-        Err(error) if error.kind() == ErrorKind::DisplayHelp => {
-            rt.print(&error)?;
-            Ok(ExitCode::from(0))
-        }
+        Err(error) if error.kind() == ErrorKind::DisplayHelp => printed(rt, rt.print(&error)),
         _ => ended(rt, &Exit::NoMemory),
+    }
+}
+
+/// How the program ends that has printed something on standard output.
+fn printed<R: Eprint>(rt: &R, done: io::Result<()>) -> io::Result<ExitCode> {
+    match done {
+        Ok(()) => Ok(ExitCode::from(0)),
+        Err(error) => ended(rt, &Exit::of_output(error)),
     }
 }
 
@@ -54,12 +62,15 @@ pub(crate) fn tell_error<R: Alloc + Files + Print + Eprint>(
 ) -> io::Result<ExitCode> {
     match error.kind() {
         ErrorKind::OutOfMemory => ended(rt, &Exit::NoMemory),
-        ErrorKind::DisplayVersion => {
-            tell_version(rt, alloc, error)?;
-            Ok(ExitCode::from(0))
-        }
+        ErrorKind::DisplayVersion => printed(rt, tell_version(rt, alloc, error)),
         _ => tell_mistake(rt, alloc, error),
     }
+}
+
+/// Tells that the file of the trace has no name, and answers the status of the program.
+pub(crate) fn tell_nameless_trace<R: Eprint>(rt: &R) -> io::Result<ExitCode> {
+    eprintln!(rt; "l4d: --trace: wanted is the path of a file; not an empty word")?;
+    Ok(ExitCode::from(BAD_WORDS))
 }
 
 /// Tells what is wrong with the words, and answers the status of the program.
@@ -67,7 +78,7 @@ fn tell_mistake<R: Eprint>(rt: &R, alloc: Global, mistake: &clap::Error) -> io::
     match mistake_text(alloc, mistake) {
         Ok(text) => {
             rt.eprint(&text)?;
-            Ok(ExitCode::from(2))
+            Ok(ExitCode::from(BAD_WORDS))
         }
         Err(_) => ended(rt, &Exit::NoMemory),
     }

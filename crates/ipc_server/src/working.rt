@@ -8,7 +8,7 @@ ghost use Rattle.ipc_tracing.specs.Working.{TicksSome};
 use ipc_base::Past;
 use ipc_connection::PenPort;
 use ipc_core::{Advance, Answer, Command};
-use ipc_lock::Naming;
+use ipc_lock::{Naming, TickBook};
 use ipc_session::{Beat, Gate, WorkPort};
 use ipc_tracing::Server;
 use std::rt::Clock;
@@ -21,7 +21,7 @@ use std::sync::ledger::Ledger;
 pub struct Worker<'a, C: Naming, T: Ledger, P: PenPort + Drop, R: Wait + Clock> {
     server: &'a Server<'a, C, T, P, R>,
     is_gone: bool,
-    ticks: Past<()>,
+    ticks: TickBook,
 }
 
 impl<'a, C: Naming, T: Ledger, P: PenPort + Drop, R: Wait + Clock> Worker<'a, C, T, P, R> {
@@ -30,7 +30,7 @@ impl<'a, C: Naming, T: Ledger, P: PenPort + Drop, R: Wait + Clock> Worker<'a, C,
         Worker {
             server,
             is_gone: false,
-            ticks: Past::new(),
+            ticks: TickBook::new(),
         }
     }
 }
@@ -51,8 +51,7 @@ impl<C: Naming, T: Ledger, P: PenPort + Drop, R: Wait + Clock> WorkPort for Work
         ensures ticks { length self.new.ticks ≡ length self.old.ticks + 1 }
         ensures ticked { TicksSome C P }
     {
-        self.server.tick();
-        self.ticks.add(&());
+        self.server.tick(&mut self.ticks);
     }
 
     #[tactic(auto, using(crate::proofs::WorkLemmas::moves))]

@@ -3,6 +3,22 @@ use std::alloc::AllocError;
 use std::io::ErrorKind;
 use std::{fmt, io};
 
+/// A device that fails.
+#[derive(Clone, Copy, PartialEq, Eq)]
+pub enum Device {
+    Output,
+    Clock,
+}
+
+impl fmt::Display for Device {
+    fn fmt<W: fmt::Write>(&self, f: &mut fmt::Formatter<W>) -> fmt::Result {
+        match self {
+            Device::Output => f.write_str("standard output"),
+            Device::Clock => f.write_str("the clock"),
+        }
+    }
+}
+
 /// Why the server failed: status 1.
 #[derive(Drop)]
 pub enum Exit {
@@ -14,8 +30,8 @@ pub enum Exit {
     NoWorker,
     /// The program itself got no memory.
     NoMemory,
-    /// Standard output or the clock failed.
-    DeviceFailed,
+    /// A device failed, and why.
+    DeviceFailed(Device, io::Error),
     /// The descriptor of `--ready-fd` is not open for writing.
     NoReadyDescriptor(u16),
     /// There is no room for the two connections of the program's own client.
@@ -30,12 +46,22 @@ impl From<AllocError> for Exit {
     }
 }
 
-impl From<io::Error> for Exit {
-    fn from(error: io::Error) -> Exit {
+impl Exit {
+    /// Standard output failed.
+    pub fn of_output(error: io::Error) -> Exit {
+        Exit::of_device(Device::Output, error)
+    }
+
+    /// The clock failed.
+    pub fn of_clock(error: io::Error) -> Exit {
+        Exit::of_device(Device::Clock, error)
+    }
+
+    fn of_device(device: Device, error: io::Error) -> Exit {
         if error.kind() == ErrorKind::OutOfMemory {
             Exit::NoMemory
         } else {
-            Exit::DeviceFailed
+            Exit::DeviceFailed(device, error)
         }
     }
 }
@@ -52,7 +78,9 @@ impl fmt::Display for Exit {
                 "l4d: no worker can be started: a limit of processes or memory"
             ),
             Exit::NoMemory => write!(f, "l4d: no memory"),
-            Exit::DeviceFailed => write!(f, "l4d: device failed"),
+            Exit::DeviceFailed(device, error) => {
+                write!(f, "l4d: device failed\n  {device}: {error}")
+            }
             Exit::NoReadyDescriptor(fd) => write!(
                 f,
                 "l4d: --ready-fd {fd}: who starts it has opened no such descriptor for writing"

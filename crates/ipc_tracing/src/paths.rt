@@ -6,7 +6,7 @@ use std::alloc::{AllocError, Global};
 use std::fs::Permissions;
 use std::net::{Net, Shutdown};
 use std::os::fd::OwnedFd;
-use std::os::unix::fs::PermissionsExt;
+use std::os::unix::fs::{MetadataExt, PermissionsExt};
 use std::os::unix::net::{UnixListener, UnixStream};
 use std::rt::Files;
 use std::{fs, io};
@@ -21,6 +21,8 @@ pub struct Door {
     pub path: String,
     /// The same socket once more, by which an accept that waits is ended.
     closer: UnixStream,
+    /// The device and the inode of the path when it was bound; None where they cannot be had.
+    inode: Option<(u64, u64)>,
 }
 
 impl Door {
@@ -130,6 +132,7 @@ pub fn control<R: Files + Net>(
 fn door_at<R: Files + Net>(rt: &R, path: String, mode: u32, replace: bool) -> Result<Door, Exit> {
     match bind_guarded(rt, path.as_str(), mode, replace) {
         Ok((socket, closer)) => Ok(Door {
+            inode: inode_at(rt, path.as_str()),
             socket,
             path,
             closer,
@@ -193,7 +196,19 @@ pub fn remove<R: Files>(rt: &R, listeners: &[Listener]) {
     }
 }
 
-/// Removes the path of a door.
+/// Removes the path of a door, where it is still the one that was bound: what somebody else put
+/// there meanwhile stays.
 pub fn remove_door<R: Files>(rt: &R, door: &Door) {
-    let _ = fs::remove_file(rt, door.path.as_str());
+    let path = door.path.as_str();
+    if door.inode.is_some() && inode_at(rt, path) == door.inode {
+        let _ = fs::remove_file(rt, path);
+    }
+}
+
+/// The device and the inode of what stands at a path.
+fn inode_at<R: Files>(rt: &R, path: &str) -> Option<(u64, u64)> {
+    match fs::symlink_metadata(rt, path) {
+        Ok(found) => Some((found.dev(), found.ino())),
+        Err(_) => None,
+    }
 }

@@ -1,3 +1,4 @@
+ghost use Rattle.std.specs.Prelude.{◌≡◌, ◌+◌, length};
 ghost use Rattle.ipc_tracing.specs.Working.{SubmitsSome, TicksSome};
 
 use crate::shared_blocks::SharedBlocks;
@@ -5,7 +6,7 @@ use ipc_connection::PenPort;
 use ipc_core::{Answer, Command};
 use ipc_host::ServerClock;
 use ipc_items::FreeBlocks;
-use ipc_lock::{Naming, SharedKernel};
+use ipc_lock::{Naming, SharedKernel, TickBook};
 use std::alloc::Global;
 use std::rt::Clock;
 use std::sync::ledger::Ledger;
@@ -59,12 +60,13 @@ impl<'a, C: Naming, T: Ledger, P: PenPort + Drop, R: Wait + Clock> Server<'a, C,
         answer
     }
 
-    /// The kernel is told the moment.
-    pub fn tick(&self)
-        ensures { TicksSome C P }
+    /// The kernel is told the moment, which is noted in the book of a ticker.
+    pub fn tick(&self, book: &mut TickBook)
+        ensures ticks { TicksSome C P }
+        ensures counted { length book.new ≡ length book.old + 1 }
     {
         let now = self.now();
-        drop(self.shared.submit(self.rt, now, None, Command::At(now)));
+        drop(self.shared.tick(self.rt, now, book));
     }
 
     /// No entry is read any more by a trace: memory may let go of each.

@@ -1,5 +1,5 @@
 //! The trace worker: each entry of the history goes to a file.
-ghost use Rattle.std.specs.Prelude.{◌≡◌, IfOk, OnOk};
+ghost use Rattle.std.specs.Prelude.{◌≡◌, ◌∷◌, ◌++◌, [], IfOk, OnOk};
 ghost use Rattle.std.specs.Io.KnownBytes.{Appends};
 ghost use Rattle.ipc_lock.specs.Above.{MarksSome};
 ghost use Rattle.ipc_trace.specs.Traces.{trace_text};
@@ -12,7 +12,7 @@ use ipc_base::PortWrite;
 use ipc_core::MAX_ENTRIES;
 use ipc_history::Entry;
 use ipc_host::SocketPort;
-use ipc_lock::{HeldPart, Naming};
+use ipc_lock::{HeldPart, MarkBook, Naming};
 use ipc_trace::{BaseNumbers, PutFault, TraceWriter, put_part};
 use std::alloc::Global;
 use std::rt::Clock;
@@ -35,6 +35,7 @@ const FAR_BEHIND: usize = MAX_ENTRIES as usize / 2;
 pub struct Trace<P: PortWrite> {
     writer: TraceWriter<P>,
     count: usize,
+    marks: MarkBook,
     // whether it was told that it is far behind, since no entry was left
     is_told: bool,
 }
@@ -83,6 +84,7 @@ impl<P: PortWrite> Trace<P> {
         Trace {
             writer: TraceWriter::new(alloc, port),
             count,
+            marks: MarkBook::new(),
             is_told: false,
         }
     }
@@ -176,8 +178,10 @@ impl<P: PortWrite> Trace<P> {
         server: &Server<'_, C, T, SocketPort, R>,
         shared: &SharedTrace,
     ) -> Result<usize, PutFault>
-        ensures { IfOk result (λ _. PutsGroup C SocketPort self.old.count
+        ensures puts { IfOk result (λ _. PutsGroup C SocketPort self.old.count
             self.old.writer.written self.new.writer.written) }
+        ensures marked { IfOk result (λ _. self.new.marks
+            ≡ self.old.marks ++ self.new.count ∷ []) }
     {
         match server.shared.wait_entries(server.rt, self.count) {
             Ok(group) => self.put_entries(server, shared, &group),
@@ -196,10 +200,14 @@ impl<P: PortWrite> Trace<P> {
         ensures puts { IfOk result (λ _. Appends self.old.writer.written self.new.writer.written
             (trace_text group.now)) }
         ensures marks { IfOk result (λ _. MarksSome C SocketPort self.new.count) }
+        ensures marked { IfOk result (λ _. self.new.marks
+            ≡ self.old.marks ++ self.new.count ∷ []) }
     {
         shared.followers.hand(server.rt, self.count, group);
         self.put_lines(group)?;
-        let left = server.shared.mark_traced(server.rt, self.count);
+        let left = server
+            .shared
+            .mark_traced(server.rt, self.count, &mut self.marks);
         self.tell_when_far_behind(server.rt, shared, left);
         if left == 0 {
             self.writer.flush()?;
@@ -209,14 +217,12 @@ impl<P: PortWrite> Trace<P> {
     }
 
     // Puts the lines of these entries, and counts them.
-    #[tactic(auto, using(crate::proofs::TraceLemmas::appends_line, crate::proofs::TraceLemmas::appends_none))]
     fn put_lines(&mut self, entries: &[Entry]) -> Result<(), PutFault>
-        ensures { OnOk result (Appends self.old.writer.written self.new.writer.written
+        ensures puts { OnOk result (Appends self.old.writer.written self.new.writer.written
             (trace_text entries.now)) }
+        ensures marks { self.new.marks ≡ self.old.marks }
     {
-        for entry in entries {
-            self.writer.put(entry)?;
-        }
+        put_each(&mut self.writer, entries)?;
         self.count = self.count.saturating_add(entries.len());
         Ok(())
     }
@@ -226,6 +232,7 @@ impl<P: PortWrite> Trace<P> {
     fn tell_when_far_behind<R: Wait + Eprint>(&mut self, rt: &R, shared: &SharedTrace, left: usize)
         ensures writer { self.new.writer ≡ self.old.writer }
         ensures count { self.new.count ≡ self.old.count }
+        ensures marks { self.new.marks ≡ self.old.marks }
     {
         if left > FAR_BEHIND && !self.is_told {
             shared.lines.tell(rt, &Behind { entries: left });
@@ -235,4 +242,15 @@ impl<P: PortWrite> Trace<P> {
             self.is_told = false;
         }
     }
+}
+
+// Puts the lines of these entries.
+#[tactic(auto, using(crate::proofs::TraceLemmas::appends_line, crate::proofs::TraceLemmas::appends_none))]
+fn put_each<P: PortWrite>(writer: &mut TraceWriter<P>, entries: &[Entry]) -> Result<(), PutFault>
+    ensures { OnOk result (Appends writer.old.written writer.new.written (trace_text entries.now)) }
+{
+    for entry in entries {
+        writer.put(entry)?;
+    }
+    Ok(())
 }

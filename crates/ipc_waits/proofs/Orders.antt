@@ -59,3 +59,9 @@ partitioned p falls (x ∷ xs) o (suc i) (suc j) d le within h = partitioned p f
 -- behind the last one, where that comes before it
 pub behind_last : (ws : List Wait) (n : ℕ) (v d : Wait) → IsOrdered ws → n ≡ length ws → comes_before (get_or ws (n - 1) d) v ≡ true → IsPartitionPoint (λ w. comes_before w v ≡ true) (λ w. comes_before w v ≡ false) ws n
 behind_last ws n v d o is last = ((λ k e low high. partitioned (λ w. comes_before w v) (λ a b before passes. before_before a b v before passes) ws o k (n - 1) e (omega arith) (omega arith) (ap (λ w. comes_before w v) (get_or_default ws (n - 1) e d (omega arith)) ∙ last)), (λ k e low high. absurd (omega arith)))
+
+-- the key of the first one is the least
+pub first_least : (ws : List Wait) (k : ℕ) (d e : Wait) → IsOrdered ws → suc k ≤ length ws → (get_or ws 0 e).key ≤ (get_or ws k d).key
+first_least [] k d e o within = absurd (omega arith)
+first_least (x ∷ xs) zero d e o within = omega arith
+first_least (x ∷ xs) (suc k) d e o within = key_rises x (get_or xs k d) (o.0 (get_or xs k d) (in_at xs k d (omega arith)))

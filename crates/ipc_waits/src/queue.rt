@@ -32,21 +32,28 @@ impl Wait {
     }
 }
 
-/// Where the waits from a key on begin.
+/// Where the waits from a key on begin. Looks at the first one first.
 fn begin_of(waits: &[Wait], key: u64) -> usize
     requires { IsOrdered waits.now }
     ensures within { result ≤ length waits.now }
     ensures rest { drop result waits.now ≡ filter (λ w. nat_le key w.key) waits.now }
 {
+    if !waits.is_empty() && key <= waits[0].key {
+        return 0;
+    }
     waits.partition_point(|wait| wait.key < key)
 }
 
-/// Where the waits whose key is no greater than a moment end.
+/// Where the waits whose key is no greater than a moment end. Looks at the last one first.
 fn end_of(waits: &[Wait], moment: u64) -> usize
     requires { IsOrdered waits.now }
     ensures within { result ≤ length waits.now }
     ensures front { take result waits.now ≡ until moment waits.now }
 {
+    let len = waits.len();
+    if len > 0 && waits[len - 1].key <= moment {
+        return len;
+    }
     waits.partition_point(|wait| wait.key <= moment)
 }
 

@@ -16,7 +16,7 @@ struct Share {
 /// The calls that are allotted. More are by a search for a path: a maker takes a place in a gap of
 /// one that has a place elsewhere.
 #[derive(Drop)]
-pub(crate) struct Allotment {
+pub struct Allotment {
     windows: Vec<Window>,
     shares: Vec<Share>,
     /// By gap how many calls nobody makes so far.
@@ -33,7 +33,7 @@ pub(crate) struct Allotment {
 
 impl Allotment {
     /// Nothing, of these makers and gaps.
-    pub fn new(
+    pub(crate) fn new(
         alloc: Global,
         makers: usize,
         windows: Vec<Window>,
@@ -52,7 +52,7 @@ impl Allotment {
     }
 
     /// A maker makes so many calls more, or as many as there is room for. Says how many that are.
-    pub fn give(&mut self, maker: usize, count: u64) -> Result<u64, AllocError> {
+    pub(crate) fn give(&mut self, maker: usize, count: u64) -> Result<u64, AllocError> {
         let mut rest = count;
         for _ in 0..count {
             if rest == 0 {
@@ -201,7 +201,7 @@ impl Allotment {
     }
 
     /// A maker makes so many calls more in a gap.
-    pub fn add(&mut self, maker: usize, gap: usize, count: u64) -> Result<(), AllocError> {
+    pub(crate) fn add(&mut self, maker: usize, gap: usize, count: u64) -> Result<(), AllocError> {
         match self.place_of(maker, gap) {
             Some(place) => {
                 self.recent = place;
@@ -248,7 +248,7 @@ impl Allotment {
     }
 
     /// In which gap a maker makes a call.
-    pub fn gap_of(&self, maker: usize) -> Option<usize> {
+    pub(crate) fn gap_of(&self, maker: usize) -> Option<usize> {
         for share in self.shares.as_slice() {
             if share.maker == maker && share.count > 0 {
                 return Some(share.gap);
@@ -270,7 +270,7 @@ impl Allotment {
 
     /// A maker makes a call in a gap and another one does not, and the other way round in a second
     /// gap.
-    pub fn swap(
+    pub(crate) fn swap(
         &mut self,
         maker: usize,
         gap: usize,
@@ -310,6 +310,10 @@ impl Allotment {
     }
 
     /// A maker is free from a gap to another one.
+    ///
+    /// # Errors
+    ///
+    /// Where memory is refused.
     pub fn allow(&mut self, maker: usize, first: usize, last: usize) -> Result<(), AllocError> {
         self.windows.push(Window { maker, first, last })?;
         Ok(())
@@ -349,6 +353,10 @@ impl Allotment {
 
     /// Allots what is left of the calls of all makers, of those first that are free no more
     /// soonest. Says how many nobody can make.
+    ///
+    /// # Errors
+    ///
+    /// Where memory is refused.
     pub fn give_all(&mut self, alloc: Global, budget: &Budget) -> Result<u64, AllocError> {
         let mut ends = vec![in alloc; 0usize; TABLE_SLOTS]?;
         for window in self.windows.as_slice() {

@@ -7,11 +7,11 @@ use std::alloc::{AllocError, Global};
 
 /// All threads that have ended at the end, as one maker of calls. A thread that lives then is the
 /// maker of its number.
-pub(crate) const OTHERS: usize = 0;
+pub const OTHERS: usize = 0;
 
 /// How many calls are left to be made of those that are not kept.
 #[derive(Drop)]
-pub(crate) struct Budget {
+pub struct Budget {
     /// By thread number.
     numbers: Vec<Own>,
     /// Of threads that have ended.
@@ -31,7 +31,7 @@ struct Own {
 
 impl Budget {
     /// All calls that are not kept.
-    pub fn new(alloc: Global, wanted: Wanted<'_>) -> Result<Budget, AllocError> {
+    pub(crate) fn new(alloc: Global, wanted: Wanted<'_>) -> Result<Budget, AllocError> {
         let end = wanted.base.calls().saturating_add(1);
         let mut budget = Budget {
             numbers: Vec::with_capacity(alloc, TABLE_SLOTS)?,

@@ -1,16 +1,15 @@
-//! The search for a history that ends as a part says.
+//! The plan of a history that ends as a part says.
 #![tactic(auto)]
 
 mod allotment;
 mod budget;
-mod calls;
-mod ending;
-mod fillers;
-mod guide;
-mod hosts;
 mod messages;
 mod plan;
 mod wanted;
 mod windows;
 
-pub use guide::{Guide, Turn};
+pub use allotment::Allotment;
+pub use budget::{Budget, OTHERS};
+pub use messages::Pair;
+pub use plan::{Plan, Receipt, Step, make_plan};
+pub use wanted::Wanted;

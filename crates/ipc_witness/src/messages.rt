@@ -27,7 +27,7 @@ pub(crate) struct Message {
 
 /// A kept call that counts as over and receives the message of another one.
 #[derive(Clone, Copy)]
-pub(crate) struct Pair {
+pub struct Pair {
     /// The number of the call that receives it.
     pub number: u64,
     /// The place of the call that sends it, or of the `turned` entry that it brings.
@@ -251,7 +251,7 @@ impl Messages {
     }
 
     /// The place behind all kept entries that need a call to be open.
-    pub fn place_behind(&self, wanted: Wanted<'_>, number: u64) -> usize {
+    pub(crate) fn place_behind(&self, wanted: Wanted<'_>, number: u64) -> usize {
         let mut behind = wanted.place_behind(number);
         for pair in self.pairs.as_slice() {
             if pair.number == number {

@@ -10,7 +10,7 @@ use std::alloc::{AllocError, Global};
 
 /// A step to a history.
 #[derive(Clone, Copy)]
-pub(crate) enum Step {
+pub enum Step {
     /// The kept entry at this place comes.
     Kept(usize),
     /// A thread waits for the message of a kept call that counts as over.
@@ -19,7 +19,7 @@ pub(crate) enum Step {
 
 /// A call that receives the message of a kept call.
 #[derive(Clone, Copy)]
-pub(crate) struct Receipt {
+pub struct Receipt {
     /// Who receives it.
     pub thread: ThreadId,
     /// The place of the sending call among the kept entries, or of the `turned` entry that its
@@ -33,11 +33,14 @@ pub(crate) struct Receipt {
 
 /// The steps, and the calls between them.
 #[derive(Drop)]
-pub(crate) struct Plan {
+pub struct Plan {
+    /// How many calls each thread has to make that are not kept.
     pub budget: Budget,
+    /// The steps, in order.
     pub steps: Vec<Step>,
     /// The kept calls that receive messages of kept calls, of which no kept entry tells.
     pub pairs: Vec<Pair>,
+    /// Who makes how many of those calls in which gap.
     pub allotment: Allotment,
     /// How many calls nobody can make, as far as the kept entries tell.
     pub missing: u64,
@@ -47,7 +50,11 @@ pub(crate) struct Plan {
 
 /// The kept entries in their order, with a call that receives for each message of which they do not
 /// tell that it is received; and who makes the other calls in which gap.
-pub(crate) fn make_plan(alloc: Global, wanted: Wanted<'_>) -> Result<Plan, AllocError> {
+///
+/// # Errors
+///
+/// Where memory is refused.
+pub fn make_plan(alloc: Global, wanted: Wanted<'_>) -> Result<Plan, AllocError> {
     let mut apart = Vec::new(alloc);
     let mut best = draft(alloc, wanted, apart.as_slice())?;
     for place in 0..wanted.kept.len() {

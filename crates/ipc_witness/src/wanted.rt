@@ -5,8 +5,10 @@ use ipc_words::{ErrorKind, Period, ThreadId};
 
 /// The base and the kept entries of a part.
 #[derive(Clone, Copy)]
-pub(crate) struct Wanted<'a> {
+pub struct Wanted<'a> {
+    /// What the part says of the entries that it does not keep.
     pub base: &'a Base,
+    /// The entries that it keeps.
     pub kept: &'a [Entry],
 }
 
@@ -25,7 +27,7 @@ impl Wanted<'_> {
     }
 
     /// Whether the kept entry at a place names a call.
-    pub fn is_named_at(&self, place: usize, number: u64) -> bool {
+    pub(crate) fn is_named_at(&self, place: usize, number: u64) -> bool {
         match self.kept.get(place) {
             Some(entry) => names(entry, number),
             None => false,
@@ -38,7 +40,7 @@ impl Wanted<'_> {
     }
 
     /// Whether a kept entry from a place on tells how the send phase of a call went.
-    pub fn tells_send_from(&self, place: usize, number: u64) -> bool {
+    pub(crate) fn tells_send_from(&self, place: usize, number: u64) -> bool {
         for at in place..self.kept.len() {
             if tells_send(&self.kept[at], number) {
                 return true;
@@ -58,7 +60,7 @@ impl Wanted<'_> {
     }
 
     /// The place of the first kept entry from a place on that names a call.
-    pub fn name_from(&self, place: usize, number: u64) -> Option<usize> {
+    pub(crate) fn name_from(&self, place: usize, number: u64) -> Option<usize> {
         for at in place..self.kept.len() {
             if names(&self.kept[at], number) {
                 return Some(at);
@@ -68,7 +70,7 @@ impl Wanted<'_> {
     }
 
     /// The place behind the last kept entry that names a call.
-    pub fn place_behind(&self, number: u64) -> usize {
+    pub(crate) fn place_behind(&self, number: u64) -> usize {
         for at in (0..self.kept.len()).rev() {
             if names(&self.kept[at], number) {
                 return at.saturating_add(1);
@@ -78,7 +80,7 @@ impl Wanted<'_> {
     }
 
     /// The gap at a place: how many kept calls come before it.
-    pub fn gap_at(&self, place: usize) -> usize {
+    pub(crate) fn gap_at(&self, place: usize) -> usize {
         let mut gap: usize = 0;
         for at in 0..place.min(self.kept.len()) {
             if self.kept[at].number().is_some() {
@@ -103,7 +105,7 @@ impl Wanted<'_> {
     }
 
     /// The number of the kept call at a place, where it is one of a thread.
-    pub fn call_by(&self, place: usize, thread: ThreadId) -> Option<u64> {
+    pub(crate) fn call_by(&self, place: usize, thread: ThreadId) -> Option<u64> {
         match self.kept.get(place) {
             Some(Entry::Given(Input::Called(number, caller, _))) if *caller == thread => {
                 Some(*number)
@@ -113,7 +115,7 @@ impl Wanted<'_> {
     }
 
     /// The number of the kept call at a place; at the end, the one behind all calls.
-    pub fn number_at(&self, place: usize) -> u64 {
+    pub(crate) fn number_at(&self, place: usize) -> u64 {
         match self.kept.get(place) {
             Some(Entry::Given(Input::Called(number, _, _))) => *number,
             _ => self.base.calls().saturating_add(1),
@@ -121,7 +123,7 @@ impl Wanted<'_> {
     }
 
     /// Whether a kept entry tells from whom a call received.
-    pub fn tells_receive(&self, number: u64) -> bool {
+    pub(crate) fn tells_receive(&self, number: u64) -> bool {
         self.kept.iter().any(|entry| tells_receive(entry, number))
     }
 
@@ -142,7 +144,7 @@ impl Wanted<'_> {
 
     /// Of a call whose receive is turned at a place: its caller, and who passes the message on that
     /// turns it. None where a kept call does that.
-    pub fn relay_at(&self, place: usize, number: u64) -> Option<(ThreadId, ThreadId)> {
+    pub(crate) fn relay_at(&self, place: usize, number: u64) -> Option<(ThreadId, ThreadId)> {
         let (caller, by) = self.awaiting_at(place, number)?;
         if let Some(Entry::Written(Output::Began(sending, _))) = self
             .kept
@@ -216,7 +218,7 @@ impl Wanted<'_> {
     }
 
     /// Whether two kept threads are in one space.
-    pub fn are_beside(&self, thread: ThreadId, other: ThreadId) -> bool {
+    pub(crate) fn are_beside(&self, thread: ThreadId, other: ThreadId) -> bool {
         let space = self.space_of(thread);
         space.is_some() && space == self.space_of(other)
     }
@@ -241,7 +243,7 @@ impl Wanted<'_> {
     }
 
     /// Whether a kept entry tells that a call before a number received the message of a call.
-    pub fn is_received_before(&self, sending: u64, number: u64) -> bool {
+    pub(crate) fn is_received_before(&self, sending: u64, number: u64) -> bool {
         match self.receiver_of(sending) {
             Some(receiving) => receiving < number,
             None => false,
@@ -249,7 +251,7 @@ impl Wanted<'_> {
     }
 
     /// Whether a kept entry tells that a call behind a number did.
-    pub fn is_received_behind(&self, sending: u64, number: u64) -> bool {
+    pub(crate) fn is_received_behind(&self, sending: u64, number: u64) -> bool {
         match self.receiver_of(sending) {
             Some(receiving) => receiving > number,
             None => false,
@@ -266,7 +268,7 @@ impl Wanted<'_> {
     }
 
     /// The partner of a call that fails with this kept entry, where that has ended then.
-    pub fn partner_ended(&self, place: usize) -> Option<ThreadId> {
+    pub(crate) fn partner_ended(&self, place: usize) -> Option<ThreadId> {
         let Some(Entry::Written(Output::Failed(number, code))) = self.kept.get(place) else {
             return None;
         };

@@ -6,11 +6,11 @@ use crate::live::{Talked, talk_to_server};
 use crate::prompted::{PromptedPort, Watch, prompt};
 use crate::talk::talk_with;
 use crate::watched::WatchedPort;
-use ipc_base::{Failures, PortWrite, ReadPort};
+use ipc_base::{Failures, PortRead, PortWrite, ReadPort};
 use ipc_core::{Limits, MAX_CALLS, MAX_ENTRIES};
 use ipc_shell::{run_script, wire_script};
 use l4sh_explain::Grammar;
-use l4sh_files::{Ending, KeptPort, is_told_at_terminal, of_input, with_reason};
+use l4sh_files::{Ending, Fault, KeptPort, Noted, is_told_at_terminal, of_input, with_reason};
 use l4sh_look::Exit;
 use l4sh_options::{ScriptLimits, TalkOptions};
 use std::alloc::Global;
@@ -27,24 +27,25 @@ pub(crate) fn run_input<L: Ledger, R: Files + Input + Eprint, W: PortWrite>(
     reads: Failures<L>,
     writer: &mut W,
 ) -> Ending {
+    let fault = Fault::new();
+    let input = ReadPort::new(Noted::new(rt.reader(), &fault), reads);
     let ending = if is_told_at_terminal() {
         let mut watched = WatchedPort::new(rt, alloc, writer);
-        run_input_into(rt, alloc, limits, reads, &mut watched)
+        run_port(alloc, limits, input, &mut watched)
     } else {
-        run_input_into(rt, alloc, limits, reads, writer)
+        run_port(alloc, limits, input, writer)
     };
-    of_input(rt, alloc, ending)
+    of_input(rt, alloc, ending, &fault)
 }
 
-/// The same, and prints to this writer.
-fn run_input_into<L: Ledger, R: Input, W: PortWrite>(
-    rt: &R,
+/// Runs the script of a reader.
+fn run_port<P: PortRead + Drop, W: PortWrite>(
     alloc: Global,
     limits: &ScriptLimits,
-    reads: Failures<L>,
+    input: P,
     writer: &mut W,
 ) -> Ending {
-    let mut reader = KeptPort::new(alloc, ReadPort::new(rt.reader(), reads));
+    let mut reader = KeptPort::new(alloc, input);
     let exit = run_script(alloc, kernel_limits(limits), &mut reader, writer);
     with_reason(alloc, Exit::from(exit), Grammar::Script, reader.tail())
 }
@@ -56,10 +57,12 @@ pub(crate) fn wire_input<L: Ledger, R: Files + Input, W: PortWrite>(
     reads: Failures<L>,
     writer: &mut W,
 ) -> Ending {
-    let mut reader = KeptPort::new(alloc, ReadPort::new(rt.reader(), reads));
+    let fault = Fault::new();
+    let noted = Noted::new(rt.reader(), &fault);
+    let mut reader = KeptPort::new(alloc, ReadPort::new(noted, reads));
     let exit = wire_script(alloc, greatest_limits(), &mut reader, writer);
     let ending = with_reason(alloc, Exit::from(exit), Grammar::Wire, reader.tail());
-    of_input(rt, alloc, ending)
+    of_input(rt, alloc, ending, &fault)
 }
 
 /// Talks over standard input, with a kernel of its own.
@@ -69,9 +72,10 @@ pub(crate) fn talk_over_input<L: Ledger, R: Files + Input, W: PortWrite>(
     reads: Failures<L>,
     writer: &mut W,
 ) -> Ending {
-    let mut reader = ReadPort::new(rt.reader(), reads);
+    let fault = Fault::new();
+    let mut reader = ReadPort::new(Noted::new(rt.reader(), &fault), reads);
     let exit = talk_with(alloc, greatest_limits(), prompt(), &mut reader, writer);
-    of_input(rt, alloc, Ending::from(exit))
+    of_input(rt, alloc, Ending::from(exit), &fault)
 }
 
 /// Talks from standard input with a live server, with a prompt at a terminal.
@@ -84,7 +88,7 @@ pub(crate) fn talk_from_input<L: Ledger, R: Input + Print + Eprint + Net, W: Por
 ) -> Talked {
     let watch = Watch::new();
     let typed = ReadPort::new(rt.reader(), reads);
-    let mut reader = PromptedPort::new(rt, typed, prompt(), &watch);
+    let mut reader = PromptedPort::new(rt, typed, &watch);
     talk_to_server(rt, alloc, options, &watch, &mut reader, writer)
 }
 

@@ -23,9 +23,10 @@ mod typed_words;
 mod watched;
 
 use clap::error::ErrorKind;
-use ending::{ShellEnding, told_ending};
+use ending::{ShellEnding, told_ending, with_output_fault};
 use ipc_base::{Failures, WritePort};
-use l4sh_files::ended_alone;
+use ipc_host::{NoWords, StandardStreams, tell_no_text, words_of};
+use l4sh_files::{Fault, Noted, ended_alone};
 use l4sh_look::Exit;
 use l4sh_options::{ShellOptions, mistake_text, shell_options, tell_version};
 use obeying::obey_into;
@@ -39,16 +40,14 @@ use std::sync::ledger::{Blank, Ledger};
 
 fn main(rt: HostRuntime) -> io::Result<ExitCode> {
     let alloc = rt.alloc();
-    match words_of(&rt, alloc) {
-        Some(words) => obey_words(&rt, alloc, &words),
-        None => ended_alone(&rt, Exit::NoMemory, &None),
-    }
-}
-
-/// The words that the program was started with. None where they cannot be had.
-fn words_of(rt: &HostRuntime, alloc: Global) -> Option<Vec<String>> {
-    let words = std::env::args(rt).ok()?;
-    words.collect::<Vec<String>>(alloc).ok()
+    let streams = StandardStreams::open(&rt);
+    let status = match words_of(&rt, alloc) {
+        Ok(words) => obey_words(&rt, alloc, &words),
+        Err(NoWords::NotText) => tell_no_text(&rt, "l4sh"),
+        Err(NoWords::Memory) => ended_alone(&rt, Exit::NoMemory, &None),
+    };
+    drop(streams);
+    status
 }
 
 /// Does what the words ask for, and answers the status of the program.
@@ -60,8 +59,9 @@ fn obey_words<R: Alloc + Files + Input + Print + Eprint + Clock + Net>(
     match shell_options(alloc, words) {
         Ok(options) => {
             let (reads, writes) = (Blank::new(1), Blank::new(1));
-            let ending = obey::<Brand, Brand, _>(rt, alloc, &options, reads, writes);
-            told_ending(rt, &ending)
+            let fault = Fault::new();
+            let ending = obey::<Brand, Brand, _>(rt, alloc, &options, reads, writes, &fault);
+            told_ending(rt, &with_output_fault(alloc, ending, &fault))
         }
         Err(error) => tell_error(rt, alloc, words, &error),
     }
@@ -76,16 +76,21 @@ fn tell_error<R: Alloc + Files + Print + Eprint>(
     error: &clap::Error,
 ) -> io::Result<ExitCode> {
     match error.kind() {
-        ErrorKind::DisplayHelp if is_help(words) => {
-            rt.print(error)?;
-            Ok(ExitCode::from(0))
-        }
+        ErrorKind::DisplayHelp if is_help(words) => printed(rt, alloc, rt.print(error)),
         ErrorKind::OutOfMemory => ended_alone(rt, Exit::NoMemory, &None),
-        ErrorKind::DisplayVersion => {
-            tell_version(rt, alloc, error)?;
-            Ok(ExitCode::from(0))
-        }
+        ErrorKind::DisplayVersion => printed(rt, alloc, tell_version(rt, alloc, error)),
         _ => tell_mistake(rt, alloc, error),
+    }
+}
+
+/// How the program ends that has printed something on standard output.
+fn printed<R: Eprint>(rt: &R, alloc: Global, done: io::Result<()>) -> io::Result<ExitCode> {
+    match done {
+        Ok(()) => Ok(ExitCode::from(0)),
+        Err(error) => {
+            let reason = format!(in alloc; "standard output: {error}").ok();
+            ended_alone(rt, Exit::DeviceFailed, &reason)
+        }
     }
 }
 
@@ -109,19 +114,21 @@ fn is_help(words: &[String]) -> bool {
 }
 
 /// Does what was asked for. The counts of failures, of the reader and of the writer, begin as
-/// blanks.
+/// blanks. Why standard output failed is noted.
 fn obey<L: Ledger, M: Ledger, R: Files + Input + Print + Eprint + Clock + Net>(
     rt: &R,
     alloc: Global,
     options: &ShellOptions<'_>,
     reads: Blank,
     writes: Blank,
+    fault: &Fault,
 ) -> ShellEnding
     requires reads_name { reads.name ≡ L.name }
     requires reads_parts { (reads.parts ≡ L.parts) × (0 < reads.parts) }
     requires writes_name { writes.name ≡ M.name }
     requires writes_parts { (writes.parts ≡ M.parts) × (0 < writes.parts) }
 {
-    let mut writer = WritePort::new(io::writer(rt), Failures::<M>::new(writes));
+    let noted = Noted::new(io::writer(rt), fault);
+    let mut writer = WritePort::new(noted, Failures::<M>::new(writes));
     obey_into(rt, alloc, options, Failures::<L>::new(reads), &mut writer)
 }

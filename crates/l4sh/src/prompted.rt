@@ -96,19 +96,14 @@ pub(crate) struct PromptedPort<'a, R: Print, P: PortRead> {
 impl<'a, R: Print, P: PortRead> PromptedPort<'a, R, P> {
     ghost use Rattle.std.specs.Prelude.{◌≡◌};
 
-    /// A port that is read so. Where the prompt is empty there is none, and nothing is watched.
-    pub(crate) fn new(
-        rt: &'a R,
-        port: P,
-        prompt: &'static str,
-        watch: &'a Watch,
-    ) -> PromptedPort<'a, R, P>
+    /// A port that is read so. Where no prompt is wanted nothing is watched.
+    pub(crate) fn new(rt: &'a R, port: P, watch: &'a Watch) -> PromptedPort<'a, R, P>
         ensures { result.port ≡ port }
     {
         PromptedPort {
             rt,
             port,
-            prompt,
+            prompt: prompt(),
             watch,
             failures: 0,
         }

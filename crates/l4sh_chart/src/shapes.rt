@@ -3,7 +3,7 @@ ghost use Rattle.std.specs.Prelude.{◌≡◌, IfOk, length};
 use crate::scene::{Row, Said};
 use crate::told::ToldCall;
 use ipc_history::Output;
-use ipc_words::ThreadId;
+use ipc_words::{ErrorKind, ThreadId};
 use std::alloc::{AllocError, Global};
 use std::collections::BTreeMap;
 
@@ -13,7 +13,8 @@ type Shape = (u64, usize, usize, u64, u64, u64, u64);
 
 /// The shapes of rows, as numbers: two rows have the same one where they have the same mark at the
 /// same columns and say the same, whatever the numbers of their calls, their moments and how long
-/// they waited.
+/// they waited. Of a call that fails at once, since its partner is not there, the version of that
+/// does not matter: so the versions of a number are looked for.
 pub(crate) fn shapes_of(
     alloc: Global,
     rows: &[Row],
@@ -37,7 +38,8 @@ fn number_all(
 {
     let mut shapes = Vec::with_capacity(alloc, rows.len())?;
     for place in 0..rows.len() {
-        shapes.push(number_of(known, shape_of(&rows[place], calls))?)?;
+        let is_missed = misses(&rows[place], rows.get(place + 1));
+        shapes.push(number_of(known, shape_of(&rows[place], is_missed, calls))?)?;
     }
     Ok(shapes)
 }
@@ -52,9 +54,32 @@ fn number_of(known: &mut BTreeMap<Shape, u64>, shape: Shape) -> Result<u64, Allo
     Ok(number)
 }
 
-fn shape_of(row: &Row, calls: &[ToldCall]) -> Shape {
+// Whether a row is of a call that fails at once, since its partner is not there: it is entered, and
+// the next row says so, or it says so itself.
+fn misses(row: &Row, next: Option<&Row>) -> bool {
+    match (row.said, next) {
+        (Said::Calls, Some(next)) => row.call == next.call && tells_missing(next),
+        _ => tells_missing(row),
+    }
+}
+
+// Whether a row says that a partner does not exist.
+fn tells_missing(row: &Row) -> bool {
+    match row.said {
+        Said::Writes(Output::Failed(_, error)) => {
+            matches!(error.kind(), Some(ErrorKind::NonExistingPartner))
+        }
+        _ => false,
+    }
+}
+
+fn shape_of(row: &Row, is_missed: bool, calls: &[ToldCall]) -> Shape {
     let (tag, to, from) = match row.call.and_then(|place| calls.get(place)) {
-        Some(call) => (call.tag.to_word(), call.to.to_word(), call.from.to_word()),
+        Some(call) => (
+            call.tag.to_word(),
+            partner_word(call.to, is_missed),
+            partner_word(call.from, is_missed),
+        ),
         None => (0, 0, 0),
     };
     (
@@ -66,6 +91,15 @@ fn shape_of(row: &Row, calls: &[ToldCall]) -> Shape {
         from,
         own_word(row),
     )
+}
+
+// The word of a thread, or of its number where its version does not matter.
+fn partner_word(thread: ThreadId, is_missed: bool) -> u64 {
+    if is_missed {
+        u64::from(thread.number())
+    } else {
+        thread.to_word()
+    }
 }
 
 // The word that an entry has beside its threads and its call; of a message the originator that is

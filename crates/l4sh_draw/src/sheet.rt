@@ -246,7 +246,7 @@ impl Sheet {
         let (number, moment) = end_of(scene, last, self.moment);
         self.later(moment, low);
         self.over.begin_words("again", self.layout.words, low);
-        put_copies(&mut self.over, fold.period, number);
+        put_copies(&mut self.over, scene, fold, number);
         self.over.end_words();
         self.y = self.y.saturating_add(ROW);
     }

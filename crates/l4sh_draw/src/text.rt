@@ -206,7 +206,7 @@ impl Drawing {
         put_times(self.alloc, &mut line, fold.count);
         self.put_moment(&mut line, moment);
         self.put_signs(&mut line, None);
-        put_copies(&mut line, fold.period, number);
+        put_copies(&mut line, scene, fold, number);
         end_line(ink, &line, self.width);
         drop(line);
     }
@@ -332,14 +332,35 @@ pub(crate) fn end_of(scene: &Scene, row: usize, moment: u64) -> (u64, u64) {
     }
 }
 
-/// Appends that so many rows above come again, up to the entry of this number.
-pub(crate) fn put_copies(ink: &mut Ink, period: usize, number: u64) {
-    if period == 1 {
+/// Appends that so many rows above come again, up to the entry of this number, and which thread the
+/// last copy names, where that is another.
+pub(crate) fn put_copies(ink: &mut Ink, scene: &Scene, fold: &Fold, number: u64) {
+    if fold.period == 1 {
         ink.put("the row above");
     } else {
-        ink.between("the ", period as u64, " rows above");
+        ink.between("the ", fold.period as u64, " rows above");
     }
     ink.between(", up to entry ", number, "");
+    let first = fold.first.saturating_add(fold.period).saturating_sub(1);
+    let (first, last) = (partner_at(scene, first), partner_at(scene, last_row(fold)));
+    if first != last {
+        ink.put(": ");
+        ink.id(first);
+        ink.put(" to ");
+        ink.id(last);
+    }
+}
+
+// The thread that the call of a row names; nilthread where it names none.
+fn partner_at(scene: &Scene, row: usize) -> ThreadId {
+    let Some(row) = scene.rows.get(row) else {
+        return ThreadId::NILTHREAD;
+    };
+    match scene.call(row) {
+        Some(call) if call.to == ThreadId::NILTHREAD => call.from,
+        Some(call) => call.to,
+        None => ThreadId::NILTHREAD,
+    }
 }
 
 /// The last row of the last copy of a pattern.

@@ -1,7 +1,6 @@
 -- Nine well-formed fields are those of a call.
 use Rattle.std.proofs.Common.{◌≡◌, ℕ, List, [], ◌∷◌, IsTrue, refl}
 use Rattle.ipc_history.specs.CallParts.{CallParts, is_normal}
-use Rattle.ipc_lines.specs.Lines.{timeouts_of}
 use Rattle.ipc_lines.specs.Lines as lines
 use Rattle.ipc_lines.specs.Reading.{IsCall}
 use Rattle.ipc_lines.proofs.Limits.{normal_words}

@@ -7,7 +7,7 @@ use Rattle.std.specs.Fmt.{decimal}
 use Rattle.ipc_words.specs.Limits.{max_message_words}
 use Rattle.ipc_words.specs.Control.{is_masked}
 use Rattle.ipc_items.specs.declared.buffer_list.Substring.{Substring}
-use Rattle.ipc_lines.specs.Texts.{hex_text, id_text, words_text, strings_text, buffers_text}
+use Rattle.ipc_lines.specs.Texts.{hex_text, id_text, timeouts_text, words_text, strings_text, buffers_text}
 use Rattle.ipc_lines.specs.Reading.{IsWord, AreWords, IsStringList, IsBufferList}
 use Rattle.l4sh_explain.specs.declared.grammars.Field.{Field}
 use Rattle.l4sh_explain.specs.declared.grammars.FieldKind.{FieldKind}
@@ -30,10 +30,10 @@ IsHex text = (word : ℕ) × IsWord word × (text ≡ hex_text word)
 abbrev pub IsMasked : List ℕ → Type 0
 IsMasked text = (control : ℕ) × IsTrue (is_masked control) × (text ≡ hex_text control)
 
--- HEX of two periods, neither of them a time point
+-- two periods, neither of them a time point
 abbrev pub IsTimeouts : List ℕ → Type 0
 IsTimeouts text = (send : ℕ) × (receive : ℕ) × (send < 2 ^ 15) × (receive < 2 ^ 15)
-    × (text ≡ hex_text (send * 2 ^ 16 + receive))
+    × (text ≡ timeouts_text send receive)
 
 -- words, at most as many as a message has
 abbrev pub IsWords : List ℕ → Type 0

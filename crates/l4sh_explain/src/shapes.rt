@@ -1,7 +1,7 @@
 ghost use Rattle.std.specs.Prelude.{◌≡◌, ℕ, ◌+◌, ◌*◌, ◌^◌, Some, IfOk};
 ghost use Rattle.ipc_history.specs.CallParts.{CallParts};
-ghost use Rattle.ipc_lines.specs.Texts.{hex_text, id_text, words_text, strings_text, buffers_text};
-ghost use Rattle.ipc_lines.specs.Lines.{call_fields, timeouts_of};
+ghost use Rattle.ipc_lines.specs.Texts.{hex_text, id_text, timeouts_text, words_text, strings_text, buffers_text};
+ghost use Rattle.ipc_lines.specs.Lines.{call_fields};
 ghost use Rattle.ipc_lines.specs.Reading.{texts_of};
 ghost use Rattle.l4sh_explain.specs.Rules.{IsWellFormed, counts_of, shape_of};
 
@@ -49,7 +49,8 @@ fn shape_with(
 ) -> Option<CallShape>
     ensures { (thread : ℕ) (call : CallParts) → IsWellFormed thread call
         → to.now ≡ id_text call.to → from.now ≡ id_text call.from
-        → timeouts.now ≡ hex_text (timeouts_of call) → tag.now ≡ hex_text call.tag
+        → timeouts.now ≡ timeouts_text call.send_period call.receive_period
+        → tag.now ≡ hex_text call.tag
         → originator.now ≡ id_text call.originator → lists ≡ counts_of call
         → result ≡ Some (shape_of call) }
 {

@@ -26,8 +26,16 @@ pub(crate) fn times_of<R: Files>(
     };
     match start_beside(rt, alloc, file) {
         Some(start) => Ok(Times::OfDay(start)),
-        None => Err(told(2, no_time(alloc, file))),
+        None if *file == "-" => Err(told(2, no_time(alloc, "standard input"))),
+        None => Err(told(2, no_file(alloc, file))),
     }
+}
+
+/// No file beside a trace says when it began.
+fn no_file(alloc: Global, file: &str) -> Result<String, AllocError> {
+    format!(in alloc;
+        "l4sh: no time of day is known of {file}: {file}.began, which l4d writes beside its trace, says nothing; a trace that is moved keeps its times where that is moved, too"
+    )
 }
 
 /// What the file beside a trace says of its beginning. None where it is not there, or says nothing
@@ -48,7 +56,7 @@ pub fn start_in(bytes: &[u8]) -> Option<Start> {
     }
 }
 
-/// No time of day is known of a trace, or of a live server.
+/// No time of day is known of a live server, or of standard input.
 pub fn no_time(alloc: Global, file: &str) -> Result<String, AllocError> {
     format!(in alloc; "l4sh: no time of day is known of {file}: nothing says when it began")
 }

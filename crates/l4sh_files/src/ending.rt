@@ -1,4 +1,5 @@
 //! How a command ends that looks at traces, and what is said of that.
+use crate::noted::Fault;
 use l4sh_look::Exit;
 use std::alloc::{AllocError, Global};
 use std::io;
@@ -54,6 +55,31 @@ pub fn tell_reason<R: Eprint>(rt: &R, reason: &Option<String>) -> io::Result<()>
         Some(reason) => rt.eprintln(reason),
         None => Ok(()),
     }
+}
+
+/// The same ending, whose reason tells why standard output failed, where that is why it ended.
+pub fn of_output(alloc: Global, ending: Ending, fault: &Fault) -> Ending {
+    of_device(alloc, ending, "standard output", fault)
+}
+
+/// The same of a device of this name.
+pub(crate) fn of_device(alloc: Global, ending: Ending, name: &str, fault: &Fault) -> Ending {
+    match ending {
+        Ending::Alone {
+            exit: Exit::DeviceFailed,
+            reason: None,
+        } => Ending::Alone {
+            exit: Exit::DeviceFailed,
+            reason: fault_reason(alloc, name, fault),
+        },
+        _ => ending,
+    }
+}
+
+/// Why the device of this name failed. None where no call of it failed, or there is no memory.
+pub fn fault_reason(alloc: Global, name: &str, fault: &Fault) -> Option<String> {
+    let error = fault.error()?;
+    format!(in alloc; "{name}: {error}").ok()
 }
 
 /// The text and the status of an ending.

@@ -52,7 +52,19 @@ pub fn migrate_file<L: Ledger, R: Files + Input + Eprint + Clock, W: PortWrite>(
     reads: Failures<L>,
     writer: &mut W,
 ) -> Ending {
+    if files.new == "-" {
+        return no_file(alloc);
+    }
     migrate_over::<L, Brand, R, _>(rt, alloc, files, reads, Blank::new(1), writer)
+}
+
+/// The new trace is to be a file. Without memory there is no reason.
+fn no_file(alloc: Global) -> Ending {
+    let reason = "NEW: wanted is a file, which is written; not -, and ./- names one of that name";
+    Ending::Alone {
+        exit: Exit::BadWord,
+        reason: String::from_str(alloc, reason).ok(),
+    }
 }
 
 /// The same. The count of the failures of the new file begins as a blank.

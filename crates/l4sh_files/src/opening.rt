@@ -1,7 +1,8 @@
 //! The file of a trace, or standard input, is opened, and something is done with it.
 use crate::bad_lines::with_reason;
-use crate::ending::Ending;
+use crate::ending::{Ending, of_device};
 use crate::kept::KeptPort;
+use crate::noted::{Fault, Noted};
 use crate::progress::{Progress, ToldPort};
 use crate::terminal::is_typed_at_terminal;
 use ipc_base::{Failures, PortRead, PortWrite, ReadPort};
@@ -63,12 +64,14 @@ fn look_at_input<T: Task, L: Ledger, R: Files + Input + Eprint + Clock, W: PortW
     } else {
         Progress::new(rt, None)
     };
-    let kept = KeptPort::new(alloc, ReadPort::new(rt.reader(), reads));
+    let fault = Fault::new();
+    let noted = Noted::new(rt.reader(), &fault);
+    let kept = KeptPort::new(alloc, ReadPort::new(noted, reads));
     let mut reader = ToldPort::new(rt, kept, progress);
     let exit = task.perform(alloc, &mut reader, writer);
     let kept = reader.into_port();
     let ending = with_reason(alloc, exit, Grammar::Trace, kept.tail());
-    of_input(rt, alloc, ending)
+    of_input(rt, alloc, ending, &fault)
 }
 
 /// Does this with the trace of a file that was opened.
@@ -86,12 +89,14 @@ fn look_at_opened<T: Task, L: Ledger, R: Files + Eprint + Clock, W: PortWrite>(
     } else {
         Progress::new(rt, size_of(rt, file))
     };
-    let kept = KeptPort::new(alloc, ReadPort::new(opened, reads));
+    let fault = Fault::new();
+    let noted = Noted::new(opened, &fault);
+    let kept = KeptPort::new(alloc, ReadPort::new(noted, reads));
     let mut reader = ToldPort::new(rt, kept, progress);
     let exit = task.perform(alloc, &mut reader, writer);
     let kept = reader.into_port();
     match exit {
-        Exit::DeviceFailed => device_failed(rt, alloc, file),
+        Exit::DeviceFailed => device_failed(rt, alloc, file, &fault),
         _ => with_reason(alloc, exit, Grammar::Trace, kept.tail()),
     }
 }
@@ -107,8 +112,9 @@ fn size_of<R: Files>(rt: &R, file: &str) -> Option<u64> {
 }
 
 /// A device failed. The reason is the file where that is a folder, which can be opened and not
-/// read, and what asks the server of one. Without memory there is no reason.
-fn device_failed<R: Files>(rt: &R, alloc: Global, file: &str) -> Ending {
+/// read, and what asks the server of one; or why the file could not be read. Where it could, or
+/// without memory, there is none.
+fn device_failed<R: Files>(rt: &R, alloc: Global, file: &str, fault: &Fault) -> Ending {
     let exit = Exit::DeviceFailed;
     if is_folder(rt, file) {
         let reason = format!(in alloc;
@@ -119,13 +125,13 @@ fn device_failed<R: Files>(rt: &R, alloc: Global, file: &str) -> Ending {
             reason: reason.ok(),
         }
     } else {
-        Ending::from(exit)
+        of_device(alloc, Ending::from(exit), file, fault)
     }
 }
 
 /// The same ending of what has read standard input. Where a device failed, and standard input is a
-/// folder, which can be opened and not read, that is the reason.
-pub fn of_input<R: Files>(rt: &R, alloc: Global, ending: Ending) -> Ending {
+/// folder, which can be opened and not read, that is the reason; or why it could not be read.
+pub fn of_input<R: Files>(rt: &R, alloc: Global, ending: Ending, fault: &Fault) -> Ending {
     match ending {
         Ending::Alone {
             exit: Exit::DeviceFailed,
@@ -134,7 +140,7 @@ pub fn of_input<R: Files>(rt: &R, alloc: Global, ending: Ending) -> Ending {
             exit: Exit::DeviceFailed,
             reason: String::from_str(alloc, "standard input is a folder").ok(),
         },
-        _ => ending,
+        _ => of_device(alloc, ending, "standard input", fault),
     }
 }
 

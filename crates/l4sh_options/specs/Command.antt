@@ -1,7 +1,7 @@
 -- The commands that `l4sh` and `l4d` ask `clap` for, by the rows of their arguments.
 use Rattle.std.specs.Prelude.{◌≡◌, List, Some, [], ◌∷◌, codes, false}
 use Rattle.clap.specs.Words.{App, Rule, Text, app_of, new_app, new_rule, rule_of, with_rule, with_subcommand}
-use Rattle.clap.specs.declared.builder.action.ArgAction.TheVariants.{Append, Set, SetTrue}
+use Rattle.clap.specs.declared.builder.action.ArgAction.TheVariants.{SetTrue}
 use Rattle.clap.specs.declared.builder.arg.Arg.{Arg}
 use Rattle.clap.specs.declared.builder.command.Command.{Command}
 use Rattle.clap.specs.declared.builder.command.Command.TheViews.{out-Command as fields_of}
@@ -21,10 +21,10 @@ HasRule rule arg = (arg.global ≡ false) × (rule_of arg ≡ rule)
 abbrev pub IsOfApp : App → Command → Type 0
 IsOfApp app command = (app_of command ≡ app) × ((fields_of command).has_globals ≡ false)
 
--- the rule of an option with what it takes, and with what stands where it is left out
+-- the rule of an argument with what it takes, and with what stands where it is left out
 abbrev pub values_rule : Values → Rule → Rule
 values_rule values.Text rule = rule
-values_rule values.Set rule = record rule { action = Some Set }
+values_rule (values.Uses action) rule = record rule { action = Some action }
 values_rule (values.Preset text) rule = record rule { defaults = text.now ∷ [] }
 values_rule (values.Number least most) rule = record rule { parser = Some (Unsigned least most) }
 values_rule (values.Count least most text) rule =
@@ -32,8 +32,7 @@ values_rule (values.Count least most text) rule =
 
 -- the rule of an argument with how it is given
 abbrev pub kind_rule : Text → Kind → Rule → Rule
-kind_rule id (kind.Place name) rule = record rule { value_names = 1 }
-kind_rule id (kind.Places name) rule = record rule { value_names = 1; action = Some Append }
+kind_rule id (kind.Place name values) rule = values_rule values (record rule { value_names = 1 })
 kind_rule id kind.Flag rule = record rule { long = Some id; action = Some SetTrue }
 kind_rule id (kind.Named name values) rule =
     values_rule values (record rule { long = Some id; value_names = 1 })

@@ -10,7 +10,7 @@ use Rattle.l4sh_options.specs.Shell.{IsFlagIn, number_in}
 use Rattle.l4sh_options.specs.TraceFiles.{HasKeepIn, HasSizeIn}
 use Rattle.l4sh_options.specs.Command.{flag_rule, max_connections_text}
 use Rattle.l4sh_options.specs.declared.server.ServerOptions.{ServerOptions}
-use Rattle.l4sh_options.specs.declared.server_words.Counts.{Counts}
+use Rattle.l4sh_options.specs.declared.server.Counts.{Counts}
 
 -- `--ID NAME`
 abbrev pub listed_rule : Text → Rule

@@ -11,14 +11,14 @@ use Rattle.clap.specs.Simple.{on_top}
 use Rattle.clap.specs.declared.builder.action.ArgAction.TheVariants.{Append, SetTrue}
 use Rattle.clap.specs.declared.builder.value_parser.ValueParser.TheVariants.{Unsigned}
 use Rattle.l4sh_options.specs.Command.{flag_rule, max_calls_text, max_chart_entry_text, max_entries_text}
-use Rattle.l4sh_options.specs.declared.asked.ChartOptions.{ChartOptions}
-use Rattle.l4sh_options.specs.declared.asked.CountOptions.{CountOptions}
-use Rattle.l4sh_options.specs.declared.asked.FollowOptions.{FollowOptions}
-use Rattle.l4sh_options.specs.declared.asked.ScriptLimits.{ScriptLimits}
+use Rattle.l4sh_options.specs.declared.chart.ChartOptions.{ChartOptions}
+use Rattle.l4sh_options.specs.declared.count.CountOptions.{CountOptions}
+use Rattle.l4sh_options.specs.declared.follow.FollowOptions.{FollowOptions}
+use Rattle.l4sh_options.specs.declared.run.ScriptLimits.{ScriptLimits}
 use Rattle.l4sh_options.specs.declared.asked.ShellOptions.{ShellOptions}
 use Rattle.l4sh_options.specs.declared.asked.ShellOptions.TheVariants.{Run, Wire, Check, Part, Chart, State, Script, Explain, Tag, Period, Count, Follow, Talk, TalkTo, Migrate, Rotate}
-use Rattle.l4sh_options.specs.declared.asked.StateOptions.{StateOptions}
-use Rattle.l4sh_options.specs.declared.asked.TalkOptions.{TalkOptions}
+use Rattle.l4sh_options.specs.declared.state.StateOptions.{StateOptions}
+use Rattle.l4sh_options.specs.declared.talk.TalkOptions.{TalkOptions}
 
 -- `--ID N`: a number up to most, by default the one that a text reads as
 abbrev pub number_rule : Text → ℕ → Text → Rule

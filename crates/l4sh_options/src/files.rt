@@ -3,7 +3,7 @@ ghost use Rattle.std.specs.Prelude.{IfOk, IfSome, option_map};
 ghost use Rattle.clap.specs.Words.{found_of, rows_of, subcommand_rows_of};
 ghost use Rattle.l4sh_options.specs.Shell.{AreFilesIn};
 
-use crate::shell::texts;
+use crate::found::texts;
 use clap::ArgMatches;
 use std::alloc::{AllocError, Global};
 

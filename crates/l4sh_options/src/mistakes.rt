@@ -1,8 +1,8 @@
 //! What is told of words that are a mistake.
 use crate::parts::{Argument, Kind, Subcommand, Values};
-use crate::server_words::ARGUMENTS;
+use crate::server::ARGUMENTS;
 use crate::shell_rows::SUBCOMMANDS;
-use clap::Error;
+use clap::{ArgAction, Error};
 use std::alloc::{AllocError, Global};
 
 /// What `clap` says of a value that is no number, behind the value and its option.
@@ -55,8 +55,10 @@ fn with_help(alloc: Global, text: String, command: &Subcommand) -> Result<String
 /// The line of an argument that lacks, between newlines. None of what may lack.
 fn line_of(alloc: Global, row: &Argument) -> Result<Option<String>, AllocError> {
     match row.kind {
-        Kind::Place(name) => Ok(Some(format!(in alloc; "\n  <{name}>\n")?)),
-        Kind::Places(name) => Ok(Some(format!(in alloc; "\n  <{name}>...\n")?)),
+        Kind::Place(name, Values::Uses(ArgAction::Append)) => {
+            Ok(Some(format!(in alloc; "\n  <{name}>...\n")?))
+        }
+        Kind::Place(name, _) => Ok(Some(format!(in alloc; "\n  <{name}>\n")?)),
         _ => Ok(None),
     }
 }

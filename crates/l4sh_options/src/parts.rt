@@ -8,13 +8,13 @@ use clap::builder::ValueParser;
 use clap::{Arg, ArgAction, Command};
 use std::alloc::{AllocError, Global};
 
-/// What an option takes, and what stands where it is left out.
+/// What an argument takes, and what stands where it is left out.
 #[derive(Clone, Copy)]
 pub(crate) enum Values {
     /// A text.
     Text,
-    /// A text, which is set by each use.
-    Set,
+    /// A text, and what each use does with it.
+    Uses(ArgAction),
     /// A text, by default this one.
     Preset(&'static str),
     /// A number from the first up to the second.
@@ -27,9 +27,7 @@ pub(crate) enum Values {
 #[derive(Clone, Copy)]
 pub(crate) enum Kind {
     /// As NAME, by its place.
-    Place(&'static str),
-    /// As NAME, by its place, once or more.
-    Places(&'static str),
+    Place(&'static str, Values),
     /// As the flag `--ID`.
     Flag,
     /// As the option `--ID NAME`.
@@ -125,21 +123,20 @@ fn argument_of<'a>(alloc: Global, row: &Argument) -> Arg<'a>
         .required(row.is_required)
         .help(row.help);
     match row.kind {
-        Kind::Place(name) => arg.value_name(name),
-        Kind::Places(name) => arg.value_name(name).action(ArgAction::Append),
+        Kind::Place(name, values) => with_values(arg.value_name(name), values),
         Kind::Flag => arg.long(row.id).action(ArgAction::SetTrue),
         Kind::Named(name, values) => with_values(arg.long(row.id).value_name(name), values),
     }
 }
 
-/// The option with what it takes.
+/// The argument with what it takes.
 fn with_values<'a>(arg: Arg<'a>, values: Values) -> Arg<'a>
     ensures rule { rule_of result ≡ values_rule values (rule_of arg.entry) }
     ensures local { result.global ≡ arg.entry.global }
 {
     match values {
         Values::Text => arg,
-        Values::Set => arg.action(ArgAction::Set),
+        Values::Uses(action) => arg.action(action),
         Values::Preset(text) => arg.default_value(text),
         Values::Number(least, most) => arg.value_parser(ValueParser::unsigned(least, most)),
         Values::Count(least, most, default) => arg

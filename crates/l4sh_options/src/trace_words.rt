@@ -4,7 +4,8 @@ ghost use Rattle.std.specs.Str.Parse.{digits_value, without_leading_plus};
 ghost use Rattle.clap.specs.Words.{found_of, rows_of};
 ghost use Rattle.l4sh_options.specs.TraceFiles.{HasKeepIn, HasSizeIn, HasTraceIn, HasUnit, SpellsSize};
 
-use crate::server_words::{Refused, flag, text};
+use crate::found::{flag, text};
+use crate::server_words::Refused;
 use clap::ArgMatches;
 
 /// How many bytes K stands for, how many times that M, and how many times that G.

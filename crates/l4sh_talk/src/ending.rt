@@ -8,6 +8,10 @@ use l4sh_explain::meaning_behind;
 use std::alloc::{AllocError, Global};
 use std::fmt;
 
+/// What is said of a server that is gone.
+const GONE: &str =
+    "it ended, or has no memory or no worker for this connection: its standard error says which";
+
 /// How a talk ended.
 #[derive(Clone, Copy, PartialEq, Eq, Debug)]
 pub enum Ending {
@@ -50,8 +54,8 @@ impl Ending {
         }
     }
 
-    /// What the number of a refusal or of a fault means, and what helps. None where there is no
-    /// number.
+    /// What the number of a refusal or of a fault means, and what helps; and what ends a connection
+    /// that says nothing. None where no more is known.
     ///
     /// # Errors
     ///
@@ -62,6 +66,9 @@ impl Ending {
             Ending::Refused(number) => reason_in(alloc, b'K', number, ""),
             Ending::Ended(ClientError::Fault { class, number }) => {
                 reason_in(alloc, class, number, "")
+            }
+            Ending::Ended(ClientError::Frame(fault)) if is_gone(fault) => {
+                Ok(Some(String::from_str(alloc, GONE)?))
             }
             _ => Ok(None),
         }

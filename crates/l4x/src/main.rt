@@ -23,7 +23,7 @@ mod trouble;
 use calling::{Search, Server};
 use ipc_base::{Failures, Past, PortRead, PortWrite, ReadPort, WritePort};
 use ipc_client::{Client, PATIENCE, PatientStream, Waiter};
-use ipc_host::{NotingReader, NotingWriter};
+use ipc_host::{NoWords, NotingReader, NotingWriter, StandardStreams, tell_no_text, words_of};
 use ipc_words::ThreadId;
 use mistake::Mistake;
 use registration::Registration;
@@ -42,16 +42,14 @@ use trouble::{Trouble, USAGE};
 
 fn main(rt: HostRuntime) -> io::Result<ExitCode> {
     let alloc = rt.alloc();
-    match words_of(&rt, alloc) {
-        Some(words) => obey_words(&rt, alloc, &words),
-        None => ended(&rt, &[], &Trouble::NoMemory),
-    }
-}
-
-/// The words that the program was started with. None where they cannot be had.
-fn words_of(rt: &HostRuntime, alloc: Global) -> Option<Vec<String>> {
-    let words = std::env::args(rt).ok()?;
-    words.collect::<Vec<String>>(alloc).ok()
+    let streams = StandardStreams::open(&rt);
+    let status = match words_of(&rt, alloc) {
+        Ok(words) => obey_words(&rt, alloc, &words),
+        Err(NoWords::NotText) => tell_no_text(&rt, "l4x"),
+        Err(NoWords::Memory) => ended(&rt, &[], &Trouble::NoMemory),
+    };
+    drop(streams);
+    status
 }
 
 /// Does what the words ask for, and answers the status of the program.
@@ -60,14 +58,21 @@ fn obey_words<R: Net + Wait + Clock + Print + Eprint>(
     alloc: Global,
     words: &[String],
 ) -> io::Result<ExitCode> {
-    if ask_for_help(words) {
-        println!(rt; "{USAGE}")?;
-        return Ok(ExitCode::from(0));
-    }
-    match obey(rt, alloc, words) {
+    let done = if ask_for_help(words) {
+        say_usage(rt)
+    } else {
+        obey(rt, alloc, words)
+    };
+    match done {
         Ok(()) => Ok(ExitCode::from(0)),
         Err(trouble) => ended(rt, words, &trouble),
     }
+}
+
+/// Prints the words that name a role.
+fn say_usage<R: Print>(rt: &R) -> Result<(), Trouble> {
+    let said = println!(rt; "{USAGE}");
+    said.map_err(|error| Trouble::NoOutput(error))
 }
 
 /// The folder of the server.
@@ -312,7 +317,7 @@ fn say_word<R: Print>(rt: &R, word: Option<u64>) -> Result<(), Trouble> {
         Some(word) => println!(rt; "{word}"),
         None => println!(rt; "nothing"),
     };
-    said.or(Err(Trouble::NoOutput))
+    said.map_err(|error| Trouble::NoOutput(error))
 }
 
 /// Prints a thread; without one `nothing`, and that is why the role ends.
@@ -322,7 +327,7 @@ fn say_thread<R: Print>(rt: &R, thread: Option<ThreadId>) -> Result<(), Trouble>
         None => println!(rt; "nothing"),
     };
     match (said, thread) {
-        (Err(_), _) => Err(Trouble::NoOutput),
+        (Err(error), _) => Err(Trouble::NoOutput(error)),
         (Ok(()), Some(_)) => Ok(()),
         (Ok(()), None) => Err(Trouble::Nobody),
     }
@@ -331,7 +336,7 @@ fn say_thread<R: Print>(rt: &R, thread: Option<ThreadId>) -> Result<(), Trouble>
 /// Prints which thread the name server is.
 fn say_names<R: Print>(rt: &R, own: ThreadId) -> Result<(), Trouble> {
     let said = println!(rt; "names {}.{}", own.number(), own.version());
-    said.or(Err(Trouble::NoOutput))
+    said.map_err(|error| Trouble::NoOutput(error))
 }
 
 /// Says on standard error why a role ended, by the words that asked for it: with what is wanted of
@@ -341,7 +346,7 @@ fn ended<R: Eprint>(rt: &R, words: &[String], trouble: &Trouble) -> io::Result<E
         // it was said on standard output
         Trouble::Nobody => {}
         Trouble::Usage => eprintln!(rt; "l4x: {}", Mistake(words))?,
-        Trouble::NoMemory | Trouble::NoOutput => eprintln!(rt; "l4x: {trouble}")?,
+        Trouble::NoMemory | Trouble::NoOutput(_) => eprintln!(rt; "l4x: {trouble}")?,
         other => eprintln!(rt; "l4x: {}/space1: {other}", folder_of(words))?,
     }
     Ok(ExitCode::from(trouble.status()))

@@ -7,7 +7,7 @@ use ipc_frame::FrameFault;
 use ipc_words::IpcError;
 use l4sh_explain::meaning_behind;
 use l4sh_state::cause_of;
-use std::fmt;
+use std::{fmt, io};
 
 /// The words that name a role.
 pub const USAGE: &str = "usage: l4x DIR ROLE, where the role is one of
@@ -27,6 +27,10 @@ Without it a server is looked for by its thread number.";
 const CLOSED: &str =
     "nobody listens there any more: its l4d has ended, or the path has had its --connections: start l4d anew, with --replace or --keep-open";
 
+/// What is said where the connection ends.
+const ENDED: &str =
+    ": the connection ended: so did its l4d, or it has no memory or no worker for it, and says so on its standard error";
+
 /// Why a role ends before its work is done.
 #[derive(Clone, Copy)]
 pub enum Trouble {
@@ -42,8 +46,8 @@ pub enum Trouble {
     Denied,
     /// The server does not say WELCOME in its time.
     Silent,
-    /// Standard output failed.
-    NoOutput,
+    /// Standard output failed, and why.
+    NoOutput(io::Error),
     /// The connection ended.
     Client(ClientError),
     /// A message is past its limits.
@@ -74,7 +78,6 @@ impl Trouble {
             Trouble::Closed => CLOSED,
             Trouble::Denied =>
                 "no permission to connect: the modes of this path and its folder say who may",
-            Trouble::NoOutput => "standard output failed",
             Trouble::LongMessage => "the message is past its limits",
             Trouble::NoNames => "there is no name server: start l4x DIR names",
             Trouble::NotPassed =>
@@ -128,6 +131,7 @@ impl fmt::Display for Trouble {
     fn fmt<W: fmt::Write>(&self, f: &mut fmt::Formatter<W>) -> fmt::Result {
         match self {
             Trouble::Client(error) => put_error(f, *error),
+            Trouble::NoOutput(error) => write!(f, "standard output failed: {error}"),
             Trouble::Silent => write!(
                 f,
                 "no WELCOME within {PATIENCE} seconds: the server is full, or does not answer"
@@ -174,7 +178,7 @@ fn put_error<W: fmt::Write>(f: &mut fmt::Formatter<W>, error: ClientError) -> fm
     write!(f, "{error}")?;
     match error {
         // what a client hears where its server ends
-        ClientError::Frame(FrameFault::Unfinished) => f.write_str(": the connection ended"),
+        ClientError::Frame(FrameFault::Unfinished) => f.write_str(ENDED),
         ClientError::Frame(FrameFault::Device) => f.write_str(": the connection failed"),
         ClientError::Frame(fault) => put_meaning(f, b'F', fault.number()),
         ClientError::Fault { class, number } => put_meaning(f, class, number),

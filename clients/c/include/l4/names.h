@@ -16,6 +16,9 @@ enum { L4_NAME_BYTES = 64 };
  * of it failed, or that of a lost connection. */
 int l4_register(const char *name);
 
+/* The same, asked again for so long as there is no name server, or it does not answer. */
+int l4_register_wait(const char *name, L4_Time_t patience);
+
 /* The live thread that has the name; L4_nilthread with errno ENOENT where there is none, or as l4_register has it. */
 L4_ThreadId_t l4_lookup(const char *name);
 

@@ -8,6 +8,7 @@ same is not lost: the next `wait` that it fits answers it.
 import asyncio
 import os
 import socket
+from contextlib import suppress
 from dataclasses import replace
 from inspect import isawaitable
 from typing import Awaitable, Callable, List, NoReturn, Optional, Sequence, Tuple, Type, TypeVar, Union
@@ -36,7 +37,8 @@ _MOST_READ = 65_536
 class Thread(Caller):
     """A thread of l4d whose calls are coroutines: ``async with Thread(directory, number) as thread``, or `connect` and `close`.
 
-    Its arguments are those of `l4ipc.Thread`; and ``canceller``, a thread of the same space that ends calls which are cancelled.
+    Its arguments are those of `l4ipc.Thread`; and ``canceller``, a thread of the same space that ends calls which are cancelled, and makes
+    no call of its own meanwhile: where it does, or has ended, the thread is closed as without one.
     """
 
     def __init__(
@@ -51,11 +53,18 @@ class Thread(Caller):
         canceller: Optional["Thread"] = None,
     ) -> None:
         super().__init__(connecting.place_of(directory, number, space, version, wait_for, connect_timeout), reconnect)
-        self._canceller = canceller
+        self._canceller = self._checked(canceller)
         self._connection: Optional[socket.socket] = None
-        self._is_open = False
+        self._over: Optional[asyncio.Event] = None  # of the call that is open
         self._kept: List[Received] = []
         self._queue: Optional[asyncio.Lock] = None
+
+    def _checked(self, canceller: Optional["Thread"]) -> Optional["Thread"]:
+        if canceller is not None and not isinstance(canceller, Thread):
+            raise arguments.wanted("canceller", "a thread of coroutines is", canceller)
+        if canceller is not None and os.path.realpath(canceller._place.path) != os.path.realpath(self._place.path):
+            raise ValueError(f"canceller: {canceller!r} is no thread of the same space")
+        return canceller
 
     async def connect(self) -> "Thread":
         """Connects, once."""
@@ -80,18 +89,24 @@ class Thread(Caller):
             self._close()
 
     async def aclose(self) -> None:
-        """The same, as the end of ``async with``: other coroutines go on meanwhile."""
-        if self._is_open:  # another coroutine reads the connection
-            return self.close()
+        """The same, as the end of ``async with``: other coroutines go on meanwhile. A call that is open raises `Closed`."""
         connection = self._to_be_ended()
         if connection is None:
             return
         try:
-            await asyncio.wait_for(_end_thread(connection), connecting.PATIENCE)
+            await asyncio.wait_for(self._end_thread(connection), connecting.PATIENCE)
         except (OSError, asyncio.TimeoutError):
             pass
         finally:
             self._close()
+
+    async def _end_thread(self, connection: socket.socket) -> None:
+        """Says BYE, and waits until the server has ended the thread, as `connecting.end_thread`. A call that is open reads the connection."""
+        connection.send(frames.bye())
+        if self._over is not None:
+            await self._over.wait()
+        while not self._is_lost and await asyncio.get_running_loop().sock_recv(connection, _MOST_READ):
+            pass
 
     def _to_be_ended(self) -> Optional[socket.socket]:
         """The thread is closed from now on. The connection, where that is still to be ended: who asked first does so."""
@@ -102,7 +117,14 @@ class Thread(Caller):
     def _close(self) -> None:
         self._lose()
         if self._connection is not None:
-            self._connection.close()
+            self._drop(self._connection)
+
+    def _drop(self, connection: socket.socket) -> None:
+        """Ends a connection. A call that is open over it hears that, and closes it: the loop would tell it nothing of one that is closed."""
+        if self._over is None:
+            return connection.close()
+        with suppress(OSError):
+            connection.shutdown(socket.SHUT_RDWR)
 
     # The calls of the manual, as those of `l4ipc.Thread`.
 
@@ -236,7 +258,7 @@ class Thread(Caller):
         """The thread is connected: again, where the connection has ended and that is asked for. Nothing was sent yet."""
         if self._is_closed or self._connection is None:
             raise Closed(f"{self!r}: no call is made")
-        if not self.reconnects or self.kept.is_busy:
+        if not self.reconnects or self.kept.is_busy or self._over is not None:
             return
         if self._is_lost or self._has_ended(self._connection):
             if is_answer:
@@ -273,29 +295,39 @@ class Thread(Caller):
     async def _connect(self, place: connecting.Place) -> None:
         end, waiting = end_of(place.wait_for), pauses(place.wait_for)
         while True:
+            self._stays_closed()
             try:
-                self._connection, own = await _attempt(place, place.seconds_for_an_answer(end))
-                return self._connected_as(own)
+                connection, own = await _attempt(place, place.seconds_for_an_answer(end))
+                break
             except (OSError, L4Error) as error:
                 pause = next(waiting, None) if connecting.passes(error) else None
                 if pause is None:
                     raise connecting.explained(error, place) from None
             await asyncio.sleep(pause)
+        if self._is_closed:
+            connection.close()
+        self._stays_closed()
+        self._connection = connection
+        self._connected_as(own)
 
     async def _ask(self, frame: bytes, kind: Type[_Kind], call: Optional[calls.Call] = None) -> _Kind:
         """Sends a frame, and answers the next one, which has to be of this kind."""
-        if self._is_open:
+        if self._over is not None:
             raise RuntimeError("another call of this thread is open")
         if self._is_closed or self._connection is None:
             raise Closed(f"{self!r}: no call is made")
-        self._is_open = True
+        connection, over = self._connection, asyncio.Event()
+        self._over = over
         try:
-            answer = await self._exchange(self._connection, frame, call)
+            answer = await self._exchange(connection, frame, call)
         except (OSError, EOFError) as end:
             self._close()
             raise Closed(f"{self!r}: the connection has ended, with l4d or by it") from (None if isinstance(end, EOFError) else end)
         finally:
-            self._is_open = False
+            self._over = None
+            over.set()
+            if self._is_lost:
+                connection.close()
         if isinstance(answer, kind):
             return answer
         error = connecting.error_of(answer, repr(self))
@@ -321,7 +353,8 @@ class Thread(Caller):
             if not is_sent or call is None or self._canceller is None:
                 self._close()
             else:
-                await self._end_call(self._canceller, connection, call)
+                with suppress(L4Error, RuntimeError):  # a canceller that cannot end the call: the thread is closed
+                    await self._end_call(self._canceller, connection, call)
             raise
         except BaseException:
             self._close()
@@ -329,10 +362,10 @@ class Thread(Caller):
 
     async def _hear(self, connection: socket.socket) -> frames.Answer:
         """The next frame, which is waited for."""
-        end = self._arrived()
+        end = self._what_is_there(connection)
         while end is None:
-            self._add(await asyncio.get_running_loop().sock_recv(connection, _MOST_READ))
-            end = self._arrived()
+            await _readable(connection)
+            end = self._what_is_there(connection)
         return self._frame_until(end)
 
     def _add(self, more: bytes) -> None:
@@ -380,7 +413,8 @@ class Thread(Caller):
         if self._queue is None:
             raise Closed(f"{self!r}: no call is made")
         async with self._queue:
-            await self.exchange_registers(dest, send=True, receive=True)
+            if await self.exchange_registers(dest, send=True, receive=True) is None:
+                raise Closed(f"{self!r}: {ThreadId(dest)} is no live thread of its space")
 
 
 class Names:
@@ -421,6 +455,17 @@ async def live_thread(thread: Thread, number: int, first: int = 1) -> Optional[T
     return await thread.run(live_version(number, first))
 
 
+async def _readable(connection: socket.socket) -> None:
+    """Until bytes have come, or the end. They stay where they are, so that a call which is cancelled now loses none."""
+    loop, end = asyncio.get_running_loop(), connection.fileno()
+    came = loop.create_future()
+    loop.add_reader(end, lambda: came.done() or came.set_result(None))
+    try:
+        await came
+    finally:
+        loop.remove_reader(end)
+
+
 async def _attempt(place: connecting.Place, seconds: Optional[float]) -> Tuple[socket.socket, ThreadId]:
     """A connection whose thread is live, and that thread, within so many seconds."""
     connection = socket.socket(socket.AF_UNIX, socket.SOCK_STREAM)
@@ -433,13 +478,6 @@ async def _attempt(place: connecting.Place, seconds: Optional[float]) -> Tuple[s
     except BaseException:
         connection.close()
         raise
-
-
-async def _end_thread(connection: socket.socket) -> None:
-    """Says BYE, and reads until the server has ended the thread, as `connecting.end_thread`."""
-    connection.send(frames.bye())
-    while await asyncio.get_running_loop().sock_recv(connection, _MOST_READ):
-        pass
 
 
 async def _greet(connection: socket.socket, place: connecting.Place, end: Optional[float]) -> ThreadId:

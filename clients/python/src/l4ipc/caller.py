@@ -7,6 +7,7 @@ from typing import Optional, Union
 
 from . import arguments, calls, frames
 from .connecting import Place
+from .errors import Closed
 from .message import Message, Received
 from .names import Book, Kept, is_name, name_bytes
 from .protocol import NOTHING_TOLD
@@ -78,6 +79,11 @@ class Caller:
         """The connection has ended. A thread that connects again is not closed by that."""
         self._is_lost = True
         self._is_closed = self._is_closed or not self.reconnects
+
+    def _stays_closed(self) -> None:
+        """A thread that was closed while it waited for l4d does not connect any more."""
+        if self._is_closed:
+            raise Closed(f"{self!r}: it was closed while it waited for l4d")
 
     def _read(self, call: calls.Call, outcome: frames.Outcome) -> Optional[Received]:
         """What a call has brought."""

@@ -7,7 +7,7 @@ import socket
 import time
 from contextlib import suppress
 from dataclasses import dataclass
-from typing import Optional, Tuple
+from typing import Callable, Optional, Tuple
 
 from . import arguments, frames, protocol
 from .errors import BadFrame, Closed, L4Error, Refused, fault, seconds
@@ -27,6 +27,7 @@ PATIENCE = 1.0
 """How many seconds a thread that is closed waits at most for the server to end it."""
 
 _MOST_READ = 65_536
+_TURNED_AWAY = "it has no memory or no worker for it, as it says on its standard error, or it ends"
 _HELP = {
     errno.ENOENT: "no such path{waited}: start l4d --dir DIR with the folder DIR{spaces}",
     errno.ECONNREFUSED: "nobody listens at that path: its l4d has ended, or the path has had its --connections (--keep-open helps)",
@@ -70,6 +71,7 @@ def place_of(directory: object, number: int, space: int, version: int, wait_for:
     """The place of a thread of a server's folder; a wrong argument is a TypeError or a ValueError."""
     space = arguments.integer("space", space, 1, MAX_SPACE)
     path = path_in(directory, f"space{space}")
+    number = arguments.integer("number", number, 1, protocol.MAX_THREAD_NUMBER)
     frames.hello(number, version)
     waits = arguments.seconds_or_none("wait_for", wait_for)
     return Place(path, number, version, waits, arguments.seconds_or_none("connect_timeout", connect_timeout), space)
@@ -88,7 +90,7 @@ def explained(error: Exception, place: Place) -> Exception:
     if isinstance(error, Refused):
         return Refused(error.number, f"number {place.number} at {place.path}", waited if passes(error) else "")
     if isinstance(error, (Closed, ConnectionResetError, BrokenPipeError)):
-        return Closed(f"l4d closed the connection at {place.path} before it answered")
+        return Closed(f"l4d closed the connection at {place.path} before it answered: {_TURNED_AWAY}")
     if not isinstance(error, OSError):
         return error
     number = errno.ETIMEDOUT if isinstance(error, (socket.timeout, BlockingIOError)) else error.errno
@@ -113,10 +115,11 @@ def error_of(answer: object, about: str = "") -> L4Error:
     return told or BadFrame(f"an answer of another kind: {type(answer).__name__}")
 
 
-def connect(place: Place) -> Tuple[socket.socket, ThreadId]:
-    """A connection whose thread is live, and that thread. It waits as long as the place says."""
+def connect(place: Place, goes_on: Callable[[], None] = lambda: None) -> Tuple[socket.socket, ThreadId]:
+    """A connection whose thread is live, and that thread. It waits as long as the place says, and while ``goes_on`` raises nothing."""
     end, waiting = end_of(place.wait_for), pauses(place.wait_for)
     while True:
+        goes_on()
         try:
             return _attempt(place, end_of(place.seconds_for_an_answer(end)))
         except (OSError, L4Error) as error:

@@ -80,7 +80,10 @@ class Loop:
                 if not self.thread.reconnects or self.thread.is_closed:
                     return
                 self.request = None
-                yield ConnectAgain()
+                try:
+                    yield ConnectAgain()
+                except Closed:  # the thread was closed meanwhile
+                    return
 
     def turns(self) -> Steps[None]:
         """Answers a message, waits for the next one, and has the function find its answer, again and again."""

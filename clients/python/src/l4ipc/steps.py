@@ -63,7 +63,9 @@ def until_there(step: Ipc, wait_for: Optional[float]) -> Steps[Optional[Received
             received: Optional[Received] = yield step
             return received
         except NoPartner as missing:
-            pause = next(waiting, None) if missing.phase == SEND else None
+            if missing.phase != SEND:
+                raise
+            pause = next(waiting, None)
             if pause is None:
                 missing.waited = wait_for or None
                 raise

@@ -385,8 +385,12 @@ class Thread(Caller):
     def _connect_again(self, wait_for: Optional[float]) -> None:
         self._close()
         seconds = None if wait_for is None else max(wait_for, LEAST_WAIT)
-        self._connection, own = connecting.connect(replace(self._place, wait_for=seconds))
+        self._connection, own = connecting.connect(replace(self._place, wait_for=seconds), self._stays_closed)
         self._connected_as(own)
+        if self._is_closed:  # meanwhile, by another thread of this process
+            connecting.end_thread(self._connection)
+            self._connection.close()
+        self._stays_closed()
 
     def _ask(self, frame: bytes, kind: Type[_Kind]) -> _Kind:
         """Sends a frame, and answers the next one, which has to be of this kind."""

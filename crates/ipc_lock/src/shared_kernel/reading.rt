@@ -1,5 +1,5 @@
 //! What is read of the history.
-ghost use Rattle.std.specs.Prelude.{IfOk};
+ghost use Rattle.std.specs.Prelude.{◌≡◌, ◌∷◌, ◌++◌, [], IfOk};
 ghost use Rattle.ipc_history.specs.Legal.{Legal};
 ghost use Rattle.ipc_lock.specs.Above.{EntryOfSome, GroupOfSome, LeftOfSome, MarksSome};
 ghost use Rattle.ipc_lock.specs.InsideParts.{LoggedParts};
@@ -7,6 +7,7 @@ ghost use Rattle.ipc_lock.specs.Turns.{Runs};
 ghost use Rattle.l4sh_state.specs.States.{IsStateOf};
 
 use super::SharedKernel;
+use crate::logged::MarkBook;
 use crate::not_given::NotGiven;
 use ipc_connection::PenPort;
 use ipc_history::Entry;
@@ -79,14 +80,15 @@ impl<C: Naming, T: Ledger, P: PenPort + Drop> SharedKernel<C, T, P> {
         self.inside(rt).mark(&self.log, upto);
     }
 
-    /// As [`SharedKernel::mark`], and answers how many entries stand at that place and behind it.
-    /// So a trace takes the lock once for both.
+    /// As [`SharedKernel::mark`], which is noted in the book of a trace, and answers how many
+    /// entries stand at that place and behind it. So a trace takes the lock once for both.
     #[tactic(auto, using(crate::proofs::Above::left_some, crate::proofs::Above::marks_some))]
-    pub fn mark_traced<R: Wait>(&self, rt: &R, upto: usize) -> usize
+    pub fn mark_traced<R: Wait>(&self, rt: &R, upto: usize, book: &mut MarkBook) -> usize
         ensures marks { MarksSome C P upto }
         ensures left { LeftOfSome C P upto result }
+        ensures marked { book.new ≡ book.old ++ upto ∷ [] }
     {
-        self.inside(rt).mark_traced(&self.log, upto)
+        self.inside(rt).mark_noted(&self.log, upto, book)
     }
 
     /// How many entries memory holds, to say when it is near its limit.

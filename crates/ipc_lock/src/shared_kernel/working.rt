@@ -1,8 +1,9 @@
 //! The mover and the ticker.
-ghost use Rattle.std.specs.Prelude.{◌≡◌, IfSome, IfNone, false};
+ghost use Rattle.std.specs.Prelude.{◌≡◌, ◌∷◌, ◌++◌, [], IfSome, IfNone, None, false};
 ghost use Rattle.std.specs.List.{list_any};
 ghost use Rattle.std.specs.Sync.Mutex.{mutex_guard_value};
-ghost use Rattle.ipc_lock.specs.Above.{EndsAll, MovesAll, MovesSome, OverSome, RestsOrEnds, WorksSome};
+ghost use Rattle.ipc_core.specs.declared.command.Command.TheVariants as step;
+ghost use Rattle.ipc_lock.specs.Above.{ActsSome, EndsAll, MovesAll, MovesSome, OverSome, RestsOrEnds, WorksSome};
 ghost use Rattle.ipc_lock.specs.Alarms.{Rests};
 ghost use Rattle.ipc_lock.specs.Boxes.{has_connection};
 ghost use Rattle.ipc_lock.specs.Turns.{Runs};
@@ -10,9 +11,10 @@ ghost use Rattle.ipc_lock.specs.Turns.{Runs};
 use super::SharedKernel;
 use crate::errands::Errands;
 use crate::inside::After;
-use crate::logged::Logged;
+use crate::logged::{Logged, TickBook};
 use crate::rest::Rest;
 use crate::roll::Roll;
+use crate::seated::Answered;
 use ipc_connection::PenPort;
 use ipc_log::Naming;
 use ipc_words::limits::{BLOCK_BYTES, MAX_STRING_BYTES};
@@ -80,6 +82,22 @@ impl<C: Naming, T: Ledger, P: PenPort + Drop> SharedKernel<C, T, P> {
         self.settle(rt, after, &mut errands);
         drop(answered);
         goes_on
+    }
+
+    /// Takes the lock, tells the kernel the moment, in microseconds, which is noted in a ticker's
+    /// book, and writes what the step told to whom it concerns.
+    #[tactic(auto, using(crate::proofs::Above::acts_some))]
+    pub fn tick<R: Wait>(&self, rt: &R, now: u64, book: &mut TickBook) -> Answered<C, T>
+        ensures acts { ActsSome {C = C} P now None (step.At now) result.answer }
+        ensures counted { book.new ≡ book.old ++ now ∷ [] }
+    {
+        let mut errands = Errands::none();
+        let mut inside = self.inside(rt);
+        let (answered, after) = inside.tick(&self.log, now, book, &mut errands);
+        drop(inside);
+        self.wake_mover(&after);
+        self.settle(rt, after, &mut errands);
+        answered
     }
 
     /// Rests until a phase is due, or an earlier one comes, at the longest until the work is over.

@@ -38,6 +38,7 @@ PROGRAMS = {"l4d", "l4sh", "l4x"}
 BETWEEN = (
     "ipc_session/src/reading.rt",
     *(f"ipc_server/src/{name}.rt" for name in ("caller", "noted", "services", "serving")),
+    "ipc_seats/src/**/*.rt",
     "ipc_lock/src/**/*.rt",
     *(f"ipc_connection/src/{name}.rt" for name in ("given", "pen", "writing")),
 )

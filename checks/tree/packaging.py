@@ -27,6 +27,8 @@ FILES = {
 SOURCES = ["CHANGELOG.md", "README.md", "build", "clients", "crates", "crates.txt", "docs", "install", "packaging"]
 LIBRARY = ["lib/libl4ipc.a", "lib/libl4ipc.so", "lib/libl4ipc.so.1", "lib/libl4ipc.so.1.0.0", "lib/pkgconfig/l4ipc.pc"]
 PREFIX, PYTHON = "/usr/local/hashkarst", "lib/python3/packages"
+# What packaging/deb asks for before all else.
+DEB_TOOLS = ("dpkg-deb", "cc", "strip", "objdump")
 # A unit is exposed so far at most, as systemd-analyze counts: 0 is safe, 10 is not.
 EXPOSED = 2.5
 # Three lines that connect as a thread, in C and in Python: each of another number, by how many words there are.
@@ -136,9 +138,10 @@ def completions(below):
             assert completed == words, (shell, completed ^ words)
             facts += len(words)
         script = f"{below}/share/bash-completion/completions/{name}"
-        assert run("bash", "-n", script).returncode == 0
-        offered = run("bash", "-c", f'. {script}; COMP_WORDS=({name} he); COMP_CWORD=1; _{name}; echo "${{COMPREPLY[@]}}"').stdout.split()
-        assert offered == ["help"], (name, offered)
+        if shutil.which("bash"):
+            assert run("bash", "-n", script).returncode == 0
+            offered = run("bash", "-c", f'. {script}; COMP_WORDS=({name} he); COMP_CWORD=1; _{name}; echo "${{COMPREPLY[@]}}"').stdout.split()
+            assert offered == ["help"], (name, offered)
         assert "'help:" in text or "(help)" in text, f"zsh is not offered {name} help"
         facts += 2
         if shutil.which("zsh"):
@@ -252,7 +255,8 @@ def refusals(place):
         for told, more in (("is not proved", {"SOURCE_DATE_EPOCH": "0"}), ("SOURCE_DATE_EPOCH", {})):
             others = {name: value for name, value in os.environ.items() if name != "SOURCE_DATE_EPOCH"}
             refused = run(f"{bare}/packaging/deb", f"{bare}/to", env={**others, **more})
-            assert not shutil.which("dpkg-deb") or refused.returncode == 1 and told in refused.stderr and "Traceback" not in refused.stderr, refused
+            lacking = next((f"deb: {it} is missing\n" for it in DEB_TOOLS if not shutil.which(it)), told)
+            assert refused.returncode == 1 and lacking in refused.stderr and "Traceback" not in refused.stderr, refused
             assert not os.path.exists(f"{bare}/to"), "a refused tree leaves a folder"
         helped = run(f"{bare}/packaging/deb", "--help")
         assert helped.returncode == 0 and "makes Debian packages" in helped.stdout, helped
@@ -265,7 +269,7 @@ def refusals(place):
 
 def debs(place):
     """packaging/deb makes the same bytes twice; each file is in one package, lintian has nothing to say, and what is unpacked runs."""
-    lacking = [it for it in ("dpkg-deb", "cc", "strip", "objdump") if not shutil.which(it)]
+    lacking = [it for it in DEB_TOOLS if not shutil.which(it)]
     if lacking:
         print(f"packaging: Debian packages are left out, since {', '.join(lacking)} is not there")
         return 0

@@ -1,5 +1,5 @@
 #!/usr/bin/env python3
-"""Looks whether a crate beside ipc_lock can make, copy, take apart or change what only the lock may make.
+"""Looks whether a crate above ipc_seats, as ipc_lock is, can make, copy, take apart or change what only its steps make.
 
 Each row below is one line of a program that would do so to an Answered, a Taken, a CallSeat or a TakeSeat. The compiler has to
 refuse each row for its reason, and no other line; and it has to accept the same program without the rows. It compiles only, and
@@ -13,11 +13,11 @@ sys.path.insert(1, f"{sys.path[0]}/../lib")
 
 from apart import made_apart, rt
 
-HEAD = """//! Would make what only the lock may make.
+HEAD = """//! Would make what only steps by seats make.
 #![tactic(auto)]
 use ipc_history::Outcome;
 use ipc_core::Answer;
-use ipc_lock::{Answered, CallSeat, TakeSeat, Taken};
+use ipc_seats::{Answered, CallSeat, TakeSeat, Taken};
 use ipc_words::ThreadId;
 use std::marker::PhantomData;
 use std::sync::ledger::{Ledger, Share};
@@ -87,7 +87,7 @@ def faults_of(folder, name):
 
 def main():
     with tempfile.TemporaryDirectory() as room:
-        folder = made_apart(room, "ipc_forger", "ipc_words ipc_history ipc_core ipc_lock", HEAD, ("src", "specs"))
+        folder = made_apart(room, "ipc_forger", "ipc_words ipc_history ipc_core ipc_seats", HEAD, ("src", "specs"))
         status, _, said = compiled(folder, HEAD)
         if status != 0:
             print(f"the program without the rows is not accepted:\n{said}")

@@ -1,6 +1,6 @@
-//! What every crate may stand on: lists that proofs alone know; memory as a bound that contracts
-//! can speak of; and ports, reads and writes of bytes with a count of the device's failures that
-//! contracts alone see.
+//! What every crate may stand on: lists that proofs alone know, of one owner or of all threads;
+//! memory as a bound that contracts can speak of; and ports, reads and writes of bytes with a count
+//! of the device's failures that contracts alone see.
 #![tactic(auto)]
 
 mod failures;
@@ -14,6 +14,7 @@ mod past;
 mod piece;
 mod port;
 mod reading;
+mod shared_log;
 mod turns;
 mod whole;
 mod writing;
@@ -28,6 +29,7 @@ pub use past::Past;
 pub use piece::PieceBuffer;
 pub use port::{PortRead, PortWrite};
 pub use reading::ReadPort;
+pub use shared_log::{Blank, Entry, Front, Keeper, Log, Naming, Own, Roll};
 pub use turns::read_turn;
 pub use whole::write_all;
 pub use writing::WritePort;

@@ -14,29 +14,29 @@ use Rattle.ipc_history.specs.Legal.{Legal, next_moving}
 use Rattle.ipc_history.specs.Outcomes.{OutcomeParts}
 use Rattle.ipc_history.specs.Threads.{is_live}
 use Rattle.ipc_history.specs.declared.entry.Entry.{Entry}
-use Rattle.ipc_lock.specs.Above.{ActsSome, AsksOrRefuses, ConnectsSome, EndsSome, EntryOfSome, FindsNone, GivesSome, GoneSome, GroupOfSome, HandsOut, HangsUpSome, IsReady, LeftOfSome, MarksSome, MovesEach, MovesSome, NotLiveSome, OverSome, PostsOrDrops, ReleasesSome, RestsOrEnds, WorksSome, is_moved}
-use Rattle.ipc_lock.specs.Alarms.{Rests}
+use Rattle.ipc_seats.specs.Alarms.{Rests}
+use Rattle.ipc_lock.specs.Above.{ActsSome, AdvancesSome, AsksOrRefuses, ConnectsSome, EndsSome, EntryOfSome, FindsNone, GivesSome, GoneSome, GroupOfSome, HandsOut, HangsUpSome, IsReady, LeftOfSome, MarksSome, MovesEach, MovesSome, NotLiveSome, OverSome, PostsOrDrops, ReleasesSome, RestsOrEnds, WorksSome, is_moved}
 use Rattle.ipc_connection.specs.Pens.{Page}
-use Rattle.ipc_lock.specs.Boxes.{BoxParts, changed_at, is_of}
-use Rattle.ipc_lock.specs.Gifts.{gifts, no_errands, number_in}
-use Rattle.ipc_lock.specs.Giving.{Wrote}
-use Rattle.ipc_lock.specs.Groups.{IsGroupAt}
+use Rattle.ipc_seats.specs.Boxes.{BoxParts, changed_at, is_of}
+use Rattle.ipc_seats.specs.Gifts.{gifts, no_errands, number_in}
+use Rattle.ipc_seats.specs.Giving.{Wrote}
+use Rattle.ipc_seats.specs.Groups.{IsGroupAt}
 use Rattle.ipc_lock.specs.InsideParts.{LoggedParts}
 use Rattle.ipc_lock.specs.Logs.{given_to}
-use Rattle.ipc_log.specs.Views.{Known}
-use Rattle.ipc_lock.specs.Owning.{Begins, Knows, Makes, Rolls, Sees}
-use Rattle.ipc_lock.specs.Noting.{NotesOn, NotesStep}
-use Rattle.ipc_lock.specs.Places.{EndsAt, FreesSome, LoadsAt, LoadsOne, OnlyLoads, is_empty_in, is_in, is_out, is_shut_in, pen_in, shut_for, thread_for}
+use Rattle.ipc_base.specs.LogViews.{Known}
+use Rattle.ipc_seats.specs.Owning.{Begins, Knows, Makes, Rolls, Sees}
+use Rattle.ipc_seats.specs.Noting.{NotesOn, NotesStep}
+use Rattle.ipc_seats.specs.Places.{EndsAt, FreesSome, LoadsAt, LoadsOne, OnlyLoads, is_empty_in, is_in, is_out, is_shut_in, pen_in, shut_for, thread_for}
+use Rattle.ipc_seats.specs.Upkeeping.{LetsGo, noted}
+use Rattle.ipc_seats.specs.declared.errands.Errands.{Errands}
+use Rattle.ipc_seats.specs.declared.events.Event.{Event}
+use Rattle.ipc_seats.specs.declared.events.Event.TheVariants as event
+use Rattle.ipc_seats.specs.declared.rest.Rest.{Rest}
+use Rattle.ipc_seats.specs.declared.seated.seats.CallSeat.{CallSeat}
+use Rattle.ipc_seats.specs.declared.upkeep.Upkeep.{Upkeep}
 use Rattle.ipc_lock.specs.Rounds.{Carries}
 use Rattle.ipc_lock.specs.Telling.{ActsAndTells, AsksAndTells}
 use Rattle.ipc_lock.specs.Turns.{Runs, Turned}
-use Rattle.ipc_lock.specs.Upkeeping.{LetsGo, noted}
-use Rattle.ipc_lock.specs.declared.errands.Errands.{Errands}
-use Rattle.ipc_lock.specs.declared.events.Event.{Event}
-use Rattle.ipc_lock.specs.declared.events.Event.TheVariants as event
-use Rattle.ipc_lock.specs.declared.rest.Rest.{Rest}
-use Rattle.ipc_lock.specs.declared.seated.seats.CallSeat.{CallSeat}
-use Rattle.ipc_lock.specs.declared.upkeep.Upkeep.{Upkeep}
 
 pub acts_some : {C P : Type 0} (before after : LoggedParts) (now : ℕ) (seat : Option (CallSeat C)) (command : Command) (answer : Answer) (pens left : Errands C P)
     → Turned C P before after (event.Acted now (command ∷ []) (answer ∷ []) (gifts pens))
@@ -131,6 +131,17 @@ posts_some C P before between after place said pens left own own_then own_now sa
 pub posts_none : (C P : Type 0) (place : ℕ) (said : Told) (own own_now : Known Event) → GoneSome C P place own own_now
     → PostsOrDrops C P place said own own_now
 posts_none C P place said own own_now gone = inr gone
+
+pub advances_some : {C P : Type 0} (before after : LoggedParts) (now : ℕ) (answer : Answer) (pens left : Errands C P) (moved : Bool)
+    → Turned C P before after (event.Acted now (Advance ∷ []) (answer ∷ []) (gifts pens))
+    → ActsAndTells {C = C} before.inside.upkeep after.inside.upkeep before.inside.kernel after.inside.kernel now None Advance answer before.inside.owners
+    before.inside.boxes after.inside.boxes no_errands pens
+    → Carries pens left → moved ≡ is_moved answer → AdvancesSome C P now moved
+advances_some before after now answer pens left moved turned acts carries is = record {
+  answer = answer;
+  acts = record { before = before; after = after; pens = pens; left = left; turned = turned; acts = acts; carries = carries };
+  is = is;
+}
 
 pub moves_some : {C P : Type 0} (before after : LoggedParts) (now : ℕ) (answer : Answer) (pens left : Errands C P) (goes_on : Bool)
     → Turned C P before after (event.Acted now (Advance ∷ []) (answer ∷ []) (gifts pens))

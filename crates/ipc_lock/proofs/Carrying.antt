@@ -2,10 +2,10 @@
 use Rattle.std.proofs.Common.{◌≡◌, ℕ, suc, List, Option, Some, None, Bool, true, false, MatchBool, refl, subst}
 use Rattle.std.specs.Prelude.{◌&&◌, is_some, not, ⊤}
 use Rattle.ipc_core.specs.KernelParts.{KernelParts}
-use Rattle.ipc_lock.specs.Boxes.{BoxParts}
-use Rattle.ipc_lock.specs.Places.{OnlyWrites, TakesBack}
+use Rattle.ipc_seats.specs.Boxes.{BoxParts}
+use Rattle.ipc_seats.specs.Places.{OnlyWrites, TakesBack}
+use Rattle.ipc_seats.specs.declared.errands.Errands.{Errands}
 use Rattle.ipc_lock.specs.Rounds.{Carries, Rounds}
-use Rattle.ipc_lock.specs.declared.errands.Errands.{Errands}
 
 -- so many rounds
 abbrev pub SomeRounds : {C P : Type 0} → Errands C P → Errands C P → Type 0

@@ -18,23 +18,23 @@ use Rattle.ipc_frame.specs.declared.version.WireVersion.{WireVersion}
 use Rattle.ipc_frame.specs.declared.version.WireVersion.TheVariants.{One}
 use Rattle.ipc_history.specs.Outcomes.{OutcomeParts}
 use Rattle.ipc_connection.specs.Pens.{new_page}
-use Rattle.ipc_lock.specs.Boxes.{BoxParts, changed_at, new_box, posted_to}
-use Rattle.ipc_lock.specs.Gifts.{gifts, no_errands, work_gifts}
+use Rattle.ipc_seats.specs.Boxes.{BoxParts, changed_at, new_box, posted_to}
+use Rattle.ipc_seats.specs.Gifts.{gifts, no_errands, work_gifts}
+use Rattle.ipc_seats.specs.Making.{Accepted, asked_for, asked_of, made_by, made_for, made_of}
+use Rattle.ipc_seats.specs.Places.{ConnectsAt, gives_back, new_seat, owned_by, places_told, shut_for, thread_for, told_in}
+use Rattle.ipc_seats.specs.declared.errands.Errands.{Errands}
+use Rattle.ipc_seats.specs.declared.events.Event.{Event}
+use Rattle.ipc_seats.specs.declared.events.Event.TheVariants as event
+use Rattle.ipc_seats.specs.declared.events.Gift.{Gift}
+use Rattle.ipc_seats.specs.declared.seated.seats.CallSeat.{CallSeat}
+use Rattle.ipc_seats.specs.declared.upkeep.Upkeep.{Upkeep}
+use Rattle.ipc_seats.proofs.Continuing.{Continues, Fits, continues_acts, continues_all, continues_both, continues_gives, continues_nothing, continues_same, step_fits}
+use Rattle.ipc_seats.proofs.Ordering.{AreInOrder}
 use Rattle.ipc_lock.specs.InsideParts.{InsideParts}
 use Rattle.ipc_lock.specs.Logs.{calls_by, calls_of, gifts_by, opened_by, said_by}
-use Rattle.ipc_lock.specs.Making.{Accepted, asked_for, asked_of, made_by, made_for, made_of}
-use Rattle.ipc_lock.specs.Places.{ConnectsAt, gives_back, new_seat, owned_by, places_told, shut_for, thread_for, told_in}
 use Rattle.ipc_lock.specs.Telling.{ActsAndTells, BreaksFor}
 use Rattle.ipc_lock.specs.Turns.{Acted, AskedFor, Connected, Ended, Laid, Looked, Marked, Posted, TakesFor, Took, Turn, Worked}
-use Rattle.ipc_lock.specs.declared.errands.Errands.{Errands}
-use Rattle.ipc_lock.specs.declared.events.Event.{Event}
-use Rattle.ipc_lock.specs.declared.events.Event.TheVariants as event
-use Rattle.ipc_lock.specs.declared.events.Gift.{Gift}
-use Rattle.ipc_lock.specs.declared.seated.seats.CallSeat.{CallSeat}
-use Rattle.ipc_lock.specs.declared.upkeep.Upkeep.{Upkeep}
-use Rattle.ipc_lock.proofs.Continuing.{Continues, Fits, continues_acts, continues_all, continues_both, continues_gives, continues_nothing, continues_same, step_fits}
 use Rattle.ipc_lock.proofs.Loading.{loads_at, loads_row}
-use Rattle.ipc_lock.proofs.Ordering.{AreInOrder}
 use Rattle.ipc_lock.proofs.Looking.{AreKept, IsGiftFor, IsKept, Known, Tells, tells_back, tells_work}
 use Rattle.ipc_lock.proofs.Keeping.{all_cleared, all_posted, all_shut, kept_new, kept_told_in, same_boxes, with_request, with_said}
 

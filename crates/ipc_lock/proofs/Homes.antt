@@ -7,20 +7,20 @@ use Rattle.ipc_connection.specs.Pens.{Page, new_page}
 use Rattle.ipc_connection.specs.declared.replying.Told.{Told}
 use Rattle.ipc_connection.specs.declared.replying.Told.TheVariants as told
 use Rattle.ipc_core.specs.KernelParts.{KernelParts}
-use Rattle.ipc_lock.specs.Boxes.{Begins, BoxParts, EndsWork, TakeParts, Works, WritesOn, changed, changed_at, has_failed, is_full, is_idle, is_of, is_pen_of, new_box, posted_to, put_at, welcomed}
+use Rattle.ipc_seats.specs.Boxes.{Begins, BoxParts, EndsWork, TakeParts, Works, WritesOn, changed, changed_at, has_failed, is_full, is_idle, is_of, is_pen_of, new_box, posted_to, put_at, welcomed}
+use Rattle.ipc_seats.specs.Places.{ConnectsAt, LaysAt, LoadsOne, LoadsRow, LooksAgain, LooksAt, OnlyLoads, StaysAll, TakesBack, WorksFor, gives_back, is_free_in, is_in, new_seat, places_told, shut_for, thread_for, told_in}
+use Rattle.ipc_seats.specs.Gifts.{no_errands}
+use Rattle.ipc_seats.specs.declared.errands.Errands.{Errands}
+use Rattle.ipc_seats.specs.declared.events.Event.{Event}
+use Rattle.ipc_seats.specs.declared.events.Event.TheVariants as event
+use Rattle.ipc_seats.specs.declared.post_box.Work.{Work}
+use Rattle.ipc_seats.specs.declared.post_box.Work.TheVariants as work
+use Rattle.ipc_seats.specs.declared.upkeep.Upkeep.{Upkeep}
+use Rattle.ipc_seats.proofs.Moves.{box_or, loads_stay, same_looked, same_next, same_told}
 use Rattle.ipc_lock.specs.InsideParts.{InsideParts}
 use Rattle.ipc_lock.specs.Logs.{LogsKeepBoxes, is_box_of, is_release}
-use Rattle.ipc_lock.specs.Places.{ConnectsAt, LaysAt, LoadsOne, LoadsRow, LooksAgain, LooksAt, OnlyLoads, StaysAll, TakesBack, WorksFor, gives_back, is_free_in, is_in, new_seat, places_told, shut_for, thread_for, told_in}
-use Rattle.ipc_lock.specs.Gifts.{no_errands}
 use Rattle.ipc_lock.specs.Telling.{BreaksFor}
 use Rattle.ipc_lock.specs.Turns.{Goes, Starts, Turn}
-use Rattle.ipc_lock.specs.declared.errands.Errands.{Errands}
-use Rattle.ipc_lock.specs.declared.events.Event.{Event}
-use Rattle.ipc_lock.specs.declared.events.Event.TheVariants as event
-use Rattle.ipc_lock.specs.declared.post_box.Work.{Work}
-use Rattle.ipc_lock.specs.declared.post_box.Work.TheVariants as work
-use Rattle.ipc_lock.specs.declared.upkeep.Upkeep.{Upkeep}
-use Rattle.ipc_lock.proofs.Moves.{box_or, loads_stay, same_looked, same_next, same_told}
 
 -- who has a box has it still
 abbrev Keeps : ℕ → List BoxParts → List BoxParts → Type 0

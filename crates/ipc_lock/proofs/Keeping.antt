@@ -11,10 +11,10 @@ use Rattle.ipc_core.specs.Outcomes.{is_among}
 use Rattle.ipc_core.proofs.BusyLaws.{still_among}
 use Rattle.ipc_frame.specs.declared.version.WireVersion.{WireVersion}
 use Rattle.ipc_connection.specs.Pens.{new_page}
-use Rattle.ipc_lock.specs.Boxes.{BoxParts, changed, changed_at, cleared, is_full, is_of, new_box, posted_to, put_at, welcomed}
-use Rattle.ipc_lock.specs.Gifts.{number_in, number_of_box}
+use Rattle.ipc_seats.specs.Boxes.{BoxParts, changed, changed_at, cleared, is_full, is_of, new_box, posted_to, put_at, welcomed}
+use Rattle.ipc_seats.specs.Gifts.{number_in, number_of_box}
+use Rattle.ipc_seats.specs.Places.{gives_back, new_seat, shut_for, told_in}
 use Rattle.ipc_lock.specs.Logs.{opened_in, said_in}
-use Rattle.ipc_lock.specs.Places.{gives_back, new_seat, shut_for, told_in}
 use Rattle.ipc_lock.proofs.Looking.{AreKept, IsKept, Known, kept_there}
 
 pub same_boxes : (known : ℕ → Known) (boxes after : List BoxParts) → after ≡ boxes → AreKept known boxes → AreKept known after

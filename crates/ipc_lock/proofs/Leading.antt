@@ -18,16 +18,16 @@ use Rattle.ipc_laws.proofs.Promise.{paired}
 use Rattle.ipc_waits.specs.Finding.{IsRising, is_among as is_in}
 use Rattle.ipc_connection.specs.declared.given.Given.{Given}
 use Rattle.ipc_connection.specs.declared.given.Given.TheVariants as given
+use Rattle.ipc_seats.specs.Making.{Accepted, accepted_of, made_by, made_in}
+use Rattle.ipc_seats.specs.declared.events.Event.{Event}
+use Rattle.ipc_seats.specs.declared.events.Event.TheVariants as event
+use Rattle.ipc_seats.specs.declared.events.Gift.{Gift}
+use Rattle.ipc_seats.proofs.Ordering.{AreInOrder}
+use Rattle.ipc_seats.proofs.Continuing.{accepted_append}
 use Rattle.ipc_lock.specs.InsideParts.{InsideParts}
 use Rattle.ipc_lock.specs.Logs.{AreOwn, Ends, IsOwn, IsPart, Keeps, LogsGiveOnce, LogsLeadWell, LogsMakeHistory, LogsTellOnce, LogsTellOwners, Skips, call_of, calls_by, calls_given, calls_of, calls_told, given_in, given_to, gifts_by, opened_by, opened_for, said_by, said_for}
-use Rattle.ipc_lock.specs.Making.{Accepted, accepted_of, made_by, made_in}
 use Rattle.ipc_lock.specs.Turns.{Goes, Runs, Starts, Turn}
-use Rattle.ipc_lock.specs.declared.events.Event.{Event}
-use Rattle.ipc_lock.specs.declared.events.Event.TheVariants as event
-use Rattle.ipc_lock.specs.declared.events.Gift.{Gift}
-use Rattle.ipc_lock.proofs.Ordering.{AreInOrder}
 use Rattle.ipc_lock.proofs.Looking.{AreKept, IsGiftFor, IsKept, Known, own_grown}
-use Rattle.ipc_lock.proofs.Continuing.{accepted_append}
 use Rattle.ipc_lock.proofs.Effects.{Effect, effect_of, known_now}
 
 -- a log of one event more

@@ -4,16 +4,16 @@ use Rattle.std.proofs.lemmas.List.Elements.{Contains-append_left, Contains-appen
 use Rattle.std.specs.List.{list_any}
 use Rattle.std.specs.Prelude.{Contains, is_some, slice_get}
 use mathlib.Core.List.{IsPrefix}
-use Rattle.ipc_log.specs.Rules.{EndsOnce, numbers_of}
+use Rattle.ipc_base.specs.LogRules.{EndsOnce, numbers_of}
+use Rattle.ipc_seats.specs.Boxes.{BoxParts, has_connection, is_of}
+use Rattle.ipc_seats.specs.Owning.{ended_by, is_by}
+use Rattle.ipc_seats.specs.Places.{is_in}
+use Rattle.ipc_seats.specs.declared.events.Event.{Event}
+use Rattle.ipc_seats.specs.declared.events.Event.TheVariants as event
 use Rattle.ipc_lock.specs.Above.{EndsAll}
-use Rattle.ipc_lock.specs.Boxes.{BoxParts, has_connection, is_of}
 use Rattle.ipc_lock.specs.InsideParts.{InsideParts, LoggedParts}
 use Rattle.ipc_lock.specs.Logs.{is_box_of, is_release}
-use Rattle.ipc_lock.specs.Owning.{ended_by, is_by}
-use Rattle.ipc_lock.specs.Places.{is_in}
 use Rattle.ipc_lock.specs.Turns.{Runs}
-use Rattle.ipc_lock.specs.declared.events.Event.{Event}
-use Rattle.ipc_lock.specs.declared.events.Event.TheVariants as event
 use Rattle.ipc_lock.proofs.Homes.{first_false, logs_keep_boxes, second_false}
 
 nobodys : (number : ℕ) (own : Option ℕ) → is_some own ≡ false → is_of number own ≡ false

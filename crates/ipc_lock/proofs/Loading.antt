@@ -3,12 +3,12 @@ use Rattle.std.proofs.Common.{◌≡◌, ℕ, List, [], ◌∷◌, ◌++◌, app
 use Rattle.std.specs.Prelude.{is_some, slice_get}
 use Rattle.ipc_core.specs.KernelParts.{KernelParts}
 use Rattle.ipc_connection.specs.Pens.{Page}
-use Rattle.ipc_lock.specs.Boxes.{BoxParts}
-use Rattle.ipc_lock.specs.Gifts.{gift_in, gifts}
+use Rattle.ipc_seats.specs.Boxes.{BoxParts}
+use Rattle.ipc_seats.specs.Gifts.{gift_in, gifts}
+use Rattle.ipc_seats.specs.Places.{LoadsAt, LoadsOne, LoadsRow, LooksAt, StaysAll, added}
+use Rattle.ipc_seats.specs.declared.errands.Errands.{Errands}
+use Rattle.ipc_seats.specs.declared.events.Gift.{Gift}
 use Rattle.ipc_lock.specs.Handing.{InOrder}
-use Rattle.ipc_lock.specs.Places.{LoadsAt, LoadsOne, LoadsRow, LooksAt, StaysAll, added}
-use Rattle.ipc_lock.specs.declared.errands.Errands.{Errands}
-use Rattle.ipc_lock.specs.declared.events.Gift.{Gift}
 use Rattle.ipc_lock.proofs.Handed.{added_gifts, added_order}
 use Rattle.ipc_lock.proofs.Looking.{Known, Tells, kept_there, tells_at, tells_both, tells_none}
 

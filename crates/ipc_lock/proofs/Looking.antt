@@ -17,17 +17,17 @@ use Rattle.ipc_laws.proofs.Growth.{caller_of_kept, is_called_kept}
 use Rattle.ipc_connection.specs.Pens.{Page, given_next}
 use Rattle.ipc_connection.specs.declared.given.Given.{Given}
 use Rattle.ipc_connection.specs.declared.given.Given.TheVariants as given
-use Rattle.ipc_lock.specs.Boxes.{Begins, BoxParts, ComesOut, EndsWork, GoesOn, HasNothing, Loads, LooksFirst, LooksInto, TakeParts, TellsNothing, Works, WritesOn, frame_posted, has_failed, is_idle, is_of, is_own, is_pen_of, thread_at_seat, thread_of, told_box}
-use Rattle.ipc_lock.specs.Gifts.{gift_in, gift_of, gift_to, gifts, last_of, work_gifts}
+use Rattle.ipc_seats.specs.Boxes.{Begins, BoxParts, ComesOut, EndsWork, GoesOn, HasNothing, Loads, LooksFirst, LooksInto, TakeParts, TellsNothing, Works, WritesOn, frame_posted, has_failed, is_idle, is_of, is_own, is_pen_of, thread_at_seat, thread_of, told_box}
+use Rattle.ipc_seats.specs.Gifts.{gift_in, gift_of, gift_to, gifts, last_of, work_gifts}
+use Rattle.ipc_seats.specs.Places.{LaysAt, LooksAgain, LooksAt, StaysAll, TakesBack, WorksFor}
+use Rattle.ipc_seats.specs.declared.errands.Errands.{Errands}
+use Rattle.ipc_seats.specs.declared.events.Gift.{Gift}
+use Rattle.ipc_seats.specs.declared.post_box.Work.{Work}
+use Rattle.ipc_seats.specs.declared.post_box.Work.TheVariants as work
+use Rattle.ipc_seats.proofs.Continuing.{Continues, continues_both, continues_gives, continues_nothing, continues_same}
+use Rattle.ipc_seats.proofs.Ordering.{last_of_taken}
+use Rattle.ipc_seats.proofs.Moves.{risen_thread}
 use Rattle.ipc_lock.specs.Logs.{IsOwn, IsReply, WasOutcome, call_of, calls_of}
-use Rattle.ipc_lock.specs.Places.{LaysAt, LooksAgain, LooksAt, StaysAll, TakesBack, WorksFor}
-use Rattle.ipc_lock.specs.declared.errands.Errands.{Errands}
-use Rattle.ipc_lock.specs.declared.events.Gift.{Gift}
-use Rattle.ipc_lock.specs.declared.post_box.Work.{Work}
-use Rattle.ipc_lock.specs.declared.post_box.Work.TheVariants as work
-use Rattle.ipc_lock.proofs.Continuing.{Continues, continues_both, continues_gives, continues_nothing, continues_same}
-use Rattle.ipc_lock.proofs.Ordering.{last_of_taken}
-use Rattle.ipc_lock.proofs.Moves.{risen_thread}
 
 -- what events say of one connection: the threads that its requests opened, and what it was told
 pub record Known : Type 0 where

@@ -4,13 +4,13 @@ use Rattle.std.specs.Prelude.{⊤}
 use Rattle.std.specs.List.{IsDistinct}
 use Rattle.ipc_core.specs.Outcomes.{is_among}
 use Rattle.ipc_core.proofs.BookLemmas.{taken_once}
+use Rattle.ipc_seats.specs.Numbering.{is_taken}
+use Rattle.ipc_seats.specs.Owning.{numbers_by}
+use Rattle.ipc_seats.specs.declared.events.Event.{Event}
+use Rattle.ipc_seats.specs.declared.events.Event.TheVariants as event
 use Rattle.ipc_lock.specs.InsideParts.{InsideParts}
 use Rattle.ipc_lock.specs.Logs.{LogsNumberOnce, numbers_in}
-use Rattle.ipc_lock.specs.Numbering.{is_taken}
-use Rattle.ipc_lock.specs.Owning.{numbers_by}
 use Rattle.ipc_lock.specs.Turns.{Goes, Starts, Turn}
-use Rattle.ipc_lock.specs.declared.events.Event.{Event}
-use Rattle.ipc_lock.specs.declared.events.Event.TheVariants as event
 
 -- the numbers that an event gave, if any, are new
 abbrev AreNew : List ℕ → List ℕ → Type 0

@@ -2,10 +2,10 @@
 use Rattle.std.proofs.Common.{◌≡◌, ℕ, List, [], ◌∷◌, ◌++◌, Bool, true, false, cond, if◌then◌else◌, refl, sym, ap, ◌∙◌}
 use Rattle.ipc_connection.specs.declared.replying.Told.{Told}
 use Rattle.ipc_connection.specs.declared.replying.Told.TheVariants as told
+use Rattle.ipc_seats.specs.Owning.{done_by, is_by, is_only}
+use Rattle.ipc_seats.specs.declared.events.Event.{Event}
+use Rattle.ipc_seats.specs.declared.events.Event.TheVariants as event
 use Rattle.ipc_lock.specs.Logs.{EndsKnowAll, opened_by, opened_for, opened_in, said_by, said_for, said_in}
-use Rattle.ipc_lock.specs.Owning.{done_by, is_by, is_only}
-use Rattle.ipc_lock.specs.declared.events.Event.{Event}
-use Rattle.ipc_lock.specs.declared.events.Event.TheVariants as event
 
 -- what others made tells it nothing
 said_none : (number : ℕ) (owns : List ℕ) (said : Told) → is_only number owns ≡ false → said_in number owns said ≡ []

@@ -1,13 +1,13 @@
 -- A number that was never taken is new to the log.
 use Rattle.std.proofs.Common.{◌≡◌, ◌==◌, ◌||◌, ℕ, zero, suc, List, [], ◌∷◌, ◌++◌, Bool, true, false, true≢false, arith, eq-eqb, refl, sym, ap, ◌∙◌, subst}
 use Rattle.std.specs.Prelude.{Contains}
-use Rattle.ipc_log.specs.Rules.{numbers_of}
+use Rattle.ipc_base.specs.LogRules.{numbers_of}
+use Rattle.ipc_seats.specs.Numbering.{is_taken}
+use Rattle.ipc_seats.specs.Owning.{numbers_by}
+use Rattle.ipc_seats.specs.declared.events.Event.{Event}
 use Rattle.ipc_lock.specs.InsideParts.{InsideParts}
 use Rattle.ipc_lock.specs.Logs.{numbers_in}
-use Rattle.ipc_lock.specs.Numbering.{is_taken}
-use Rattle.ipc_lock.specs.Owning.{numbers_by}
 use Rattle.ipc_lock.specs.Turns.{Runs}
-use Rattle.ipc_lock.specs.declared.events.Event.{Event}
 use Rattle.ipc_lock.proofs.NewNumbers.{logs_number_once}
 
 -- the numbers that a log gave are those of the connections

@@ -2,13 +2,13 @@
 use Rattle.std.proofs.Common.{ℕ, Option, Some, None, Result, Ok, Err}
 use Rattle.std.specs.Prelude.{IfOk, IfSome}
 use Rattle.ipc_history.specs.Legal.{Legal}
+use Rattle.ipc_seats.specs.Parting.{IsBehind, IsPartOf}
+use Rattle.ipc_seats.specs.declared.events.Event.TheVariants as event
+use Rattle.ipc_seats.specs.declared.part.Behind.{Behind}
+use Rattle.ipc_seats.specs.declared.part.HeldPart.{HeldPart}
 use Rattle.ipc_lock.specs.Above.{EndsAPart, PartOfSome}
 use Rattle.ipc_lock.specs.InsideParts.{LoggedParts}
-use Rattle.ipc_lock.specs.Parting.{IsBehind, IsPartOf}
 use Rattle.ipc_lock.specs.Turns.{Turned}
-use Rattle.ipc_lock.specs.declared.events.Event.TheVariants as event
-use Rattle.ipc_lock.specs.declared.part.Behind.{Behind}
-use Rattle.ipc_lock.specs.declared.part.HeldPart.{HeldPart}
 
 pub ends_a_part : {E : Type 0} (C P : Type 0) (result : Result Behind E) (before after : LoggedParts) (place : ℕ) → Turned C P before after event.Parted
     → Legal before.inside.kernel.history → IfOk result (IsBehind before.inside.kernel.history before.inside.kernel.taken place)

@@ -9,15 +9,15 @@ use Rattle.ipc_core.specs.declared.command.Command.{Command}
 use Rattle.ipc_core.specs.declared.command.Command.TheVariants.{Broke}
 use Rattle.ipc_frame.specs.declared.version.WireVersion.TheVariants.{One}
 use Rattle.ipc_history.specs.Legal.{Legal}
-use Rattle.ipc_lock.specs.Acting.{ActsOn, AsksOn}
-use Rattle.ipc_lock.specs.Boxes.{BoxParts, OnlyTakes}
-use Rattle.ipc_lock.specs.Noting.{NotesOn}
-use Rattle.ipc_lock.specs.Places.{Ends, LoadsRow, OnlyLoads, new_seat, owned_by, places_told, told_in}
+use Rattle.ipc_seats.specs.Acting.{ActsOn, AsksOn}
+use Rattle.ipc_seats.specs.Boxes.{BoxParts, OnlyTakes}
+use Rattle.ipc_seats.specs.Noting.{NotesOn}
+use Rattle.ipc_seats.specs.Places.{Ends, LoadsRow, OnlyLoads, new_seat, owned_by, places_told, told_in}
+use Rattle.ipc_seats.specs.declared.errands.Errands.{Errands}
+use Rattle.ipc_seats.specs.declared.seated.seats.CallSeat.{CallSeat}
+use Rattle.ipc_seats.specs.declared.upkeep.Upkeep.{Upkeep}
+use Rattle.ipc_seats.proofs.Moves.{ends_so}
 use Rattle.ipc_lock.specs.Telling.{ActsAndTells, AsksAndTells}
-use Rattle.ipc_lock.specs.declared.errands.Errands.{Errands}
-use Rattle.ipc_lock.specs.declared.seated.seats.CallSeat.{CallSeat}
-use Rattle.ipc_lock.specs.declared.upkeep.Upkeep.{Upkeep}
-use Rattle.ipc_lock.proofs.Moves.{ends_so}
 
 -- first the step, and then what it tells
 pub acts_and_tells : {C P : Type 0} (upkeep between after : Upkeep) (old stepped new : KernelParts) (now : ℕ) (seat : Option (CallSeat C)) (command : Command) (answer : Answer)

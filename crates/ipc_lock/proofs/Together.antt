@@ -1,20 +1,20 @@
 -- Both logs go on together.
 use Rattle.std.proofs.Common.{◌≡◌, ℕ, List, [], ◌∷◌, ◌++◌, append_assoc, append-nil, sym, ap, ◌∙◌, subst}
 use Rattle.std.specs.Prelude.{Contains, false, min}
-use Rattle.ipc_log.specs.Rules.{numbers_of}
-use Rattle.ipc_log.proofs.Rows.{numbers_more}
-use Rattle.ipc_lock.specs.Giving.{GivesOn, gifts_in, pens_by}
+use Rattle.ipc_base.specs.LogRules.{numbers_of}
+use Rattle.ipc_base.proofs.LogRows.{numbers_more}
+use Rattle.ipc_seats.specs.Giving.{GivesOn, gifts_in, pens_by}
+use Rattle.ipc_seats.specs.Numbering.{is_taken}
+use Rattle.ipc_seats.specs.declared.events.Event.{Event}
+use Rattle.ipc_seats.specs.declared.events.Gave.{Gave}
+use Rattle.ipc_seats.specs.declared.events.Gave.TheVariants as gave
+use Rattle.ipc_seats.specs.declared.events.Gift.{Gift}
 use Rattle.ipc_lock.specs.Handing.{TellsGifts, gifts_of}
 use Rattle.ipc_lock.specs.InsideParts.{InsideParts}
 use Rattle.ipc_lock.specs.Logs.{gifts_by}
-use Rattle.ipc_lock.specs.Numbering.{is_taken}
 use Rattle.ipc_lock.specs.Turns.{Turn, first_inside}
-use Rattle.ipc_lock.specs.declared.events.Event.{Event}
-use Rattle.ipc_lock.specs.declared.events.Gave.{Gave}
-use Rattle.ipc_lock.specs.declared.events.Gave.TheVariants as gave
-use Rattle.ipc_lock.specs.declared.events.Gift.{Gift}
 use Rattle.ipc_words.specs.Limits.{max_calls, max_entries}
-use Rattle.ipc_lock.proofs.Handed.{gifts_more}
+use Rattle.ipc_seats.proofs.Giving.{gifts_more}
 use Rattle.ipc_lock.proofs.Owned.{not_among}
 use Rattle.ipc_lock.proofs.Turning.{runs_on, starts}
 

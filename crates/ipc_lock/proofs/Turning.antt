@@ -10,21 +10,21 @@ use Rattle.ipc_core.specs.Obeying.{empty_kernel}
 use Rattle.ipc_core.specs.declared.command.Answer.{Answer}
 use Rattle.ipc_core.specs.declared.command.Command.{Command}
 use Rattle.ipc_history.specs.Outcomes.{OutcomeParts}
-use Rattle.ipc_lock.specs.Boxes.{BoxParts}
-use Rattle.ipc_lock.specs.Gifts.{gifts_of_work, idle_in, outcomes_in, work_gifts}
+use Rattle.ipc_seats.specs.Boxes.{BoxParts}
+use Rattle.ipc_seats.specs.Gifts.{gifts_of_work, idle_in, outcomes_in, work_gifts}
+use Rattle.ipc_seats.specs.Parting.{LetGoOfAll}
+use Rattle.ipc_seats.specs.Seats.{TakesNothing}
+use Rattle.ipc_seats.specs.Upkeeping.{first_upkeep}
+use Rattle.ipc_seats.specs.declared.events.Event.{Event}
+use Rattle.ipc_seats.specs.declared.events.Event.TheVariants as event
+use Rattle.ipc_seats.specs.declared.events.Gift.{Gift}
+use Rattle.ipc_seats.specs.declared.post_box.Work.{Work}
+use Rattle.ipc_seats.specs.declared.post_box.Work.TheVariants as work
+use Rattle.ipc_seats.specs.declared.seated.Taken.{Taken}
+use Rattle.ipc_seats.specs.declared.upkeep.Upkeep.{Upkeep}
 use Rattle.ipc_lock.specs.InsideParts.{InsideParts, LoggedParts, parts_of}
-use Rattle.ipc_lock.specs.Parting.{LetGoOfAll}
-use Rattle.ipc_lock.specs.Seats.{TakesNothing}
 use Rattle.ipc_lock.specs.Turns.{Goes, Parted, Runs, Starts, TakesFor, Turn, Turned, first_inside}
-use Rattle.ipc_lock.specs.Upkeeping.{first_upkeep}
-use Rattle.ipc_lock.specs.declared.events.Event.{Event}
-use Rattle.ipc_lock.specs.declared.events.Event.TheVariants as event
-use Rattle.ipc_lock.specs.declared.events.Gift.{Gift}
 use Rattle.ipc_lock.specs.declared.inside.Inside.{Inside}
-use Rattle.ipc_lock.specs.declared.post_box.Work.{Work}
-use Rattle.ipc_lock.specs.declared.post_box.Work.TheVariants as work
-use Rattle.ipc_lock.specs.declared.seated.Taken.{Taken}
-use Rattle.ipc_lock.specs.declared.upkeep.Upkeep.{Upkeep}
 use Rattle.ipc_words.specs.Limits.{max_calls, max_entries, table_slots}
 
 abbrev parts : KernelParts → Upkeep → List BoxParts → List (Option ℕ) → List ℕ → InsideParts

@@ -2,18 +2,18 @@
 use Rattle.std.proofs.Common.{◌≡◌, ◌⊎◌, ℕ, inl, inr, List, [], Option, Some, None, Bool, true, false, MatchBool, refl, subst, sym}
 use Rattle.std.specs.Prelude.{slice_get, slice_set, ⊤}
 use Rattle.ipc_core.specs.KernelParts.{KernelParts}
+use Rattle.ipc_seats.specs.Boxes.{Begins, BoxParts, EndsWork, Loads, Works, WritesOn, has_failed, is_idle, is_of}
+use Rattle.ipc_seats.specs.Gifts.{gifts, work_gifts}
+use Rattle.ipc_seats.specs.Places.{StaysAll, TakesBack, WorksFor}
+use Rattle.ipc_seats.specs.declared.errands.Errands.{Errands}
+use Rattle.ipc_seats.specs.declared.events.Event.TheVariants as event
+use Rattle.ipc_seats.specs.declared.events.Gift.{Gift}
+use Rattle.ipc_seats.specs.declared.post_box.Work.{Work}
+use Rattle.ipc_seats.specs.declared.post_box.Work.TheVariants as work
 use Rattle.ipc_lock.specs.Above.{EndsWorkSome, LaysSome, TakesOutSome}
-use Rattle.ipc_lock.specs.Boxes.{Begins, BoxParts, EndsWork, Loads, Works, WritesOn, has_failed, is_idle, is_of}
-use Rattle.ipc_lock.specs.Gifts.{gifts, work_gifts}
 use Rattle.ipc_lock.specs.InsideParts.{LoggedParts}
-use Rattle.ipc_lock.specs.Places.{StaysAll, TakesBack, WorksFor}
 use Rattle.ipc_lock.specs.Rounds.{Carries}
 use Rattle.ipc_lock.specs.Turns.{Turned}
-use Rattle.ipc_lock.specs.declared.errands.Errands.{Errands}
-use Rattle.ipc_lock.specs.declared.events.Event.TheVariants as event
-use Rattle.ipc_lock.specs.declared.events.Gift.{Gift}
-use Rattle.ipc_lock.specs.declared.post_box.Work.{Work}
-use Rattle.ipc_lock.specs.declared.post_box.Work.TheVariants as work
 use Rattle.ipc_connection.specs.Pens.{Page}
 
 -- a writer goes on

@@ -16,29 +16,29 @@ use Rattle.ipc_history.specs.Legal.{Legal, next_moving}
 use Rattle.ipc_history.specs.Outcomes.{OutcomeParts}
 use Rattle.ipc_history.specs.Threads.{is_live}
 use Rattle.ipc_history.specs.declared.entry.Entry.{Entry}
-use Rattle.ipc_lock.specs.Alarms.{Rests}
-use Rattle.ipc_lock.specs.Boxes.{BoxParts, Loads, changed_at, is_of, posted_to}
-use Rattle.ipc_lock.specs.Gifts.{gifts, no_errands, number_in, work_gifts}
-use Rattle.ipc_lock.specs.Giving.{Wrote}
-use Rattle.ipc_lock.specs.Groups.{IsGroupAt}
+use Rattle.ipc_seats.specs.Alarms.{Rests}
+use Rattle.ipc_seats.specs.Boxes.{BoxParts, Loads, changed_at, is_of, posted_to}
+use Rattle.ipc_seats.specs.Gifts.{gifts, no_errands, number_in, work_gifts}
+use Rattle.ipc_seats.specs.Giving.{Wrote}
+use Rattle.ipc_seats.specs.Groups.{IsGroupAt}
 use Rattle.ipc_lock.specs.InsideParts.{InsideParts, LoggedParts}
 use Rattle.ipc_lock.specs.Logs.{given_to, is_box_of}
-use Rattle.ipc_log.specs.Rules.{EndsOnce, numbers_of}
-use Rattle.ipc_log.specs.Views.{Known}
-use Rattle.ipc_lock.specs.Owning.{Begins, Knows, Makes, Rolls, Sees, ended_by, is_by}
-use Rattle.ipc_lock.specs.Parting.{IsBehind, IsPartOf}
-use Rattle.ipc_lock.specs.Places.{EndsAt, FreesSome, LoadsOne, OnlyLoads, TakesBack, WorksFor, is_empty_in, is_in, is_shut_in, shut_for, thread_for}
+use Rattle.ipc_base.specs.LogRules.{EndsOnce, numbers_of}
+use Rattle.ipc_base.specs.LogViews.{Known}
+use Rattle.ipc_seats.specs.Owning.{Begins, Knows, Makes, Rolls, Sees, ended_by, is_by}
+use Rattle.ipc_seats.specs.Parting.{IsBehind, IsPartOf}
+use Rattle.ipc_seats.specs.Places.{EndsAt, FreesSome, LoadsOne, OnlyLoads, TakesBack, WorksFor, is_empty_in, is_in, is_shut_in, shut_for, thread_for}
+use Rattle.ipc_seats.specs.declared.errands.Errands.{Errands}
+use Rattle.ipc_seats.specs.declared.events.Event.{Event}
+use Rattle.ipc_seats.specs.declared.events.Event.TheVariants as event
+use Rattle.ipc_seats.specs.declared.part.Behind.{Behind}
+use Rattle.ipc_seats.specs.declared.part.HeldPart.{HeldPart}
+use Rattle.ipc_seats.specs.declared.post_box.Work.TheVariants as work
+use Rattle.ipc_seats.specs.declared.rest.Rest.{Rest}
+use Rattle.ipc_seats.specs.declared.seated.seats.CallSeat.{CallSeat}
 use Rattle.ipc_lock.specs.Rounds.{Carries}
 use Rattle.ipc_lock.specs.Telling.{ActsAndTells, AsksAndTells}
 use Rattle.ipc_lock.specs.Turns.{Runs, Turned}
-use Rattle.ipc_lock.specs.declared.errands.Errands.{Errands}
-use Rattle.ipc_lock.specs.declared.events.Event.{Event}
-use Rattle.ipc_lock.specs.declared.events.Event.TheVariants as event
-use Rattle.ipc_lock.specs.declared.part.Behind.{Behind}
-use Rattle.ipc_lock.specs.declared.part.HeldPart.{HeldPart}
-use Rattle.ipc_lock.specs.declared.post_box.Work.TheVariants as work
-use Rattle.ipc_lock.specs.declared.rest.Rest.{Rest}
-use Rattle.ipc_lock.specs.declared.seated.seats.CallSeat.{CallSeat}
 use Rattle.ipc_connection.specs.Pens.{Page}
 use Rattle.ipc_words.specs.Limits.{block_bytes, max_string_bytes}
 
@@ -272,6 +272,12 @@ pub record NotLiveSome (C P : Type 0) (thread : ℕ) : Type 0 where
 abbrev pub is_moved : Answer → Bool
 is_moved (Advanced advance.Moved) = true
 is_moved answer = false
+
+-- a step was made at this moment that copies a block of what is in transfer, if there is one
+pub record AdvancesSome (C P : Type 0) (now : ℕ) (moved : Bool) : Type 0 where
+  pub answer : Answer
+  pub acts : ActsSome {C = C} P now None Advance answer
+  pub is : moved ≡ is_moved answer
 
 -- a step was made at this moment that copies a block of what is in transfer, if there is one; it
 -- goes on where it copied one and more is left

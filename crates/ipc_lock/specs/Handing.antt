@@ -2,16 +2,16 @@
 -- together.
 use Rattle.std.specs.Prelude.{◌≡◌, ◌++◌, ◌∷◌, [], List, Option, Some, None, ⊤}
 use Rattle.ipc_connection.specs.Pens.{Page}
-use Rattle.ipc_log.specs.Rules.{numbers_of}
-use Rattle.ipc_lock.specs.Gifts.{gifts}
-use Rattle.ipc_lock.specs.Giving.{GivesOn, gifts_in, pens_by}
+use Rattle.ipc_base.specs.LogRules.{numbers_of}
+use Rattle.ipc_seats.specs.Gifts.{gifts}
+use Rattle.ipc_seats.specs.Giving.{GivesOn, gifts_in, pens_by}
+use Rattle.ipc_seats.specs.declared.errands.Errands.{Errands}
+use Rattle.ipc_seats.specs.declared.events.Event.{Event}
+use Rattle.ipc_seats.specs.declared.events.Gave.{Gave}
+use Rattle.ipc_seats.specs.declared.events.Gift.{Gift}
 use Rattle.ipc_lock.specs.InsideParts.{InsideParts}
 use Rattle.ipc_lock.specs.Logs.{gifts_by}
 use Rattle.ipc_lock.specs.Turns.{Runs}
-use Rattle.ipc_lock.specs.declared.errands.Errands.{Errands}
-use Rattle.ipc_lock.specs.declared.events.Event.{Event}
-use Rattle.ipc_lock.specs.declared.events.Gave.{Gave}
-use Rattle.ipc_lock.specs.declared.events.Gift.{Gift}
 
 -- the pens on errands stand in the first places
 abbrev pub AreFirst : Option Page → Option Page → Option Page → Type 0

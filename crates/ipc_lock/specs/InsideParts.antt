@@ -1,10 +1,10 @@
 -- What contracts see of what stands under the lock, and of the list of all that was done to it.
 use Rattle.std.specs.Prelude.{ℕ, Bool, List, Option}
 use Rattle.ipc_core.specs.KernelParts.{KernelParts}
-use Rattle.ipc_lock.specs.Boxes.{BoxParts}
-use Rattle.ipc_lock.specs.declared.events.Event.{Event}
+use Rattle.ipc_seats.specs.Boxes.{BoxParts}
+use Rattle.ipc_seats.specs.declared.events.Event.{Event}
+use Rattle.ipc_seats.specs.declared.upkeep.Upkeep.{Upkeep}
 use Rattle.ipc_lock.specs.declared.inside.Inside.{Inside}
-use Rattle.ipc_lock.specs.declared.upkeep.Upkeep.{Upkeep}
 
 -- the kernel, when memory lets go of its entries, the boxes, the box of each thread number, and the
 -- numbers of all connections so far

@@ -16,15 +16,15 @@ use Rattle.ipc_history.specs.declared.entry.Entry.{Entry}
 use Rattle.ipc_waits.specs.Finding.{IsRising}
 use Rattle.ipc_connection.specs.declared.given.Given.{Given}
 use Rattle.ipc_connection.specs.declared.given.Given.TheVariants as given
-pub use Rattle.ipc_lock.specs.Giving.{given_in}
+pub use Rattle.ipc_seats.specs.Giving.{given_in}
+use Rattle.ipc_seats.specs.Making.{accepted_of, made_in}
+use Rattle.ipc_seats.specs.Owning.{done_by, numbers_by}
+use Rattle.ipc_seats.specs.Places.{is_in}
+use Rattle.ipc_seats.specs.declared.events.Event.{Event}
+use Rattle.ipc_seats.specs.declared.events.Event.TheVariants as event
+use Rattle.ipc_seats.specs.declared.events.Gift.{Gift}
 use Rattle.ipc_lock.specs.InsideParts.{InsideParts}
-use Rattle.ipc_lock.specs.Making.{accepted_of, made_in}
-use Rattle.ipc_lock.specs.Owning.{done_by, numbers_by}
-use Rattle.ipc_lock.specs.Places.{is_in}
 use Rattle.ipc_lock.specs.Turns.{Runs}
-use Rattle.ipc_lock.specs.declared.events.Event.{Event}
-use Rattle.ipc_lock.specs.declared.events.Event.TheVariants as event
-use Rattle.ipc_lock.specs.declared.events.Gift.{Gift}
 
 -- what an event gave connections, in order
 abbrev pub gifts_by : Event → List Gift

@@ -2,9 +2,9 @@
 -- comes out again.
 use Rattle.std.specs.Prelude.{◌≡◌, ℕ, zero, suc, List, None}
 use Rattle.ipc_core.specs.KernelParts.{KernelParts}
-use Rattle.ipc_lock.specs.Boxes.{BoxParts}
-use Rattle.ipc_lock.specs.Places.{OnlyWrites, TakesBack}
-use Rattle.ipc_lock.specs.declared.errands.Errands.{Errands}
+use Rattle.ipc_seats.specs.Boxes.{BoxParts}
+use Rattle.ipc_seats.specs.Places.{OnlyWrites, TakesBack}
+use Rattle.ipc_seats.specs.declared.errands.Errands.{Errands}
 
 -- it was written with each pen, and none was given anything
 pub record Writes {C P : Type 0} (errands written : Errands C P) : Type 0 where

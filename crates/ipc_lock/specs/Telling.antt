@@ -10,13 +10,13 @@ use Rattle.ipc_core.specs.declared.command.Command.{Command}
 use Rattle.ipc_core.specs.declared.command.Command.TheVariants.{Broke}
 use Rattle.ipc_frame.specs.declared.version.WireVersion.TheVariants.{One}
 use Rattle.ipc_history.specs.Legal.{Legal}
-use Rattle.ipc_lock.specs.Acting.{ActsOn, AsksOn}
-use Rattle.ipc_lock.specs.Boxes.{BoxParts, OnlyTakes}
-use Rattle.ipc_lock.specs.Noting.{NotesOn}
-use Rattle.ipc_lock.specs.Places.{LoadsRow, OnlyLoads, new_seat, owned_by, places_told, told_in}
-use Rattle.ipc_lock.specs.declared.errands.Errands.{Errands}
-use Rattle.ipc_lock.specs.declared.seated.seats.CallSeat.{CallSeat}
-use Rattle.ipc_lock.specs.declared.upkeep.Upkeep.{Upkeep}
+use Rattle.ipc_seats.specs.Acting.{ActsOn, AsksOn}
+use Rattle.ipc_seats.specs.Boxes.{BoxParts, OnlyTakes}
+use Rattle.ipc_seats.specs.Noting.{NotesOn}
+use Rattle.ipc_seats.specs.Places.{LoadsRow, OnlyLoads, new_seat, owned_by, places_told, told_in}
+use Rattle.ipc_seats.specs.declared.errands.Errands.{Errands}
+use Rattle.ipc_seats.specs.declared.seated.seats.CallSeat.{CallSeat}
+use Rattle.ipc_seats.specs.declared.upkeep.Upkeep.{Upkeep}
 
 -- a step was made, and the boxes of the threads whose calls it finished were looked into
 pub record ActsAndTells {C P : Type 0} (upkeep after : Upkeep) (old new : KernelParts) (now : ℕ) (seat : Option (CallSeat C)) (command : Command)

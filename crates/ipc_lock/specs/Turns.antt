@@ -12,21 +12,21 @@ use Rattle.ipc_history.specs.Holding.{marked_to}
 use Rattle.ipc_history.specs.Outcomes.{OutcomeParts}
 use Rattle.ipc_connection.specs.Pens.{new_page}
 use Rattle.ipc_words.specs.Limits.{max_calls, max_entries, table_slots}
-use Rattle.ipc_lock.specs.Boxes.{changed_at, new_box, posted_to}
-use Rattle.ipc_lock.specs.Gifts.{gifts, no_errands, number_in, work_gifts}
+use Rattle.ipc_seats.specs.Boxes.{changed_at, new_box, posted_to}
+use Rattle.ipc_seats.specs.Gifts.{gifts, no_errands, number_in, work_gifts}
+use Rattle.ipc_seats.specs.Numbering.{is_taken}
+use Rattle.ipc_seats.specs.Parting.{LetGoOfAll}
+use Rattle.ipc_seats.specs.Places.{ConnectsAt, LoadsAt, TakesBack, WorksFor, disowned, gives_back, is_in, new_seat, owned_by, shut_for, thread_for}
+use Rattle.ipc_seats.specs.Seats.{TakesNothing}
+use Rattle.ipc_seats.specs.Upkeeping.{first_upkeep}
+use Rattle.ipc_seats.specs.declared.errands.Errands.{Errands}
+use Rattle.ipc_seats.specs.declared.events.Event.{Event}
+use Rattle.ipc_seats.specs.declared.events.Event.TheVariants as event
+use Rattle.ipc_seats.specs.declared.events.Gift.{Gift}
+use Rattle.ipc_seats.specs.declared.post_box.Work.{Work}
+use Rattle.ipc_seats.specs.declared.seated.seats.CallSeat.{CallSeat}
 use Rattle.ipc_lock.specs.InsideParts.{InsideParts, LoggedParts}
-use Rattle.ipc_lock.specs.Numbering.{is_taken}
-use Rattle.ipc_lock.specs.Parting.{LetGoOfAll}
-use Rattle.ipc_lock.specs.Places.{ConnectsAt, LoadsAt, TakesBack, WorksFor, disowned, gives_back, is_in, new_seat, owned_by, shut_for, thread_for}
-use Rattle.ipc_lock.specs.Seats.{TakesNothing}
 use Rattle.ipc_lock.specs.Telling.{ActsAndTells, AsksAndTells, BreaksFor}
-use Rattle.ipc_lock.specs.Upkeeping.{first_upkeep}
-use Rattle.ipc_lock.specs.declared.errands.Errands.{Errands}
-use Rattle.ipc_lock.specs.declared.events.Event.{Event}
-use Rattle.ipc_lock.specs.declared.events.Event.TheVariants as event
-use Rattle.ipc_lock.specs.declared.events.Gift.{Gift}
-use Rattle.ipc_lock.specs.declared.post_box.Work.{Work}
-use Rattle.ipc_lock.specs.declared.seated.seats.CallSeat.{CallSeat}
 
 -- a connection got this number, which none had, and the box of this place, which is as new
 pub record Connected (before after : InsideParts) (place number : ℕ) : Type 0 where

@@ -1,8 +1,7 @@
 //! The two ends of a connection's box. Neither has a copy, so no worker reaches the box of another
 //! connection.
-use crate::events::Event;
-use crate::seated::CallSeat;
-use ipc_log::{Naming, Own};
+use ipc_base::{Naming, Own};
+use ipc_seats::{CallSeat, Event};
 
 /// The end of a connection's reader: the box that it posts to, the space that it opens its thread
 /// in, the seat by which that thread calls, once it was opened, and the connection's number, with

@@ -3,9 +3,9 @@ ghost use Rattle.std.specs.Prelude.{◌≡◌, ◌+◌, ◌*◌, ◌^◌, ◌≤
 ghost use Rattle.ipc_core.specs.Obeying.{empty_kernel};
 ghost use Rattle.ipc_history.specs.Legal.{Legal};
 ghost use Rattle.ipc_history.specs.Paired.{Paired};
-ghost use Rattle.ipc_lock.specs.Acting.{ActsOn, AnswersStep, GivesSeat, HandsBack, is_idle};
-ghost use Rattle.ipc_lock.specs.Upkeeping.{LetsGo, first_upkeep};
-ghost use Rattle.ipc_lock.specs.Noting.{NotesOn, has_begun_since, is_break};
+ghost use Rattle.ipc_seats.specs.Acting.{ActsOn, AnswersStep, GivesSeat, HandsBack, is_idle};
+ghost use Rattle.ipc_seats.specs.Upkeeping.{LetsGo, first_upkeep};
+ghost use Rattle.ipc_seats.specs.Noting.{NotesOn, has_begun_since, is_break};
 ghost use Rattle.ipc_words.specs.Limits.{max_calls, max_command_entries, max_entries, table_slots};
 
 mod asking;
@@ -20,13 +20,10 @@ mod reading;
 mod telling;
 mod waking;
 
-use crate::post_box::PostBox;
-use crate::seated::{Answered, CallSeat, Locked};
-use crate::upkeep::Upkeep;
-use ipc_base::Memory;
+use ipc_base::{Memory, Naming};
 use ipc_connection::PenPort;
 use ipc_core::{Command, Limits, MAX_ENTRIES, Refusal};
-use ipc_log::Naming;
+use ipc_seats::{Answered, CallSeat, Locked, PostBox, Upkeep};
 use ipc_words::ThreadId;
 use ipc_words::limits::TABLE_SLOTS;
 use std::alloc::{AllocError, Global};

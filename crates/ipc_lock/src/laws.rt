@@ -1,16 +1,9 @@
 //! The laws of the lock. Each function is a theorem: it does nothing, and its contract holds of
-//! every history, and of every list of events that led to what stands under the lock.
+//! every list of events that led to what stands under the lock.
 ghost use Rattle.ipc_lock.specs.Logs.{EndsKnowAll, LogsGiveOnce, LogsKeepBoxes, LogsLeadWell, LogsMakeHistory, LogsNumberOnce, LogsTellOnce, LogsTellOwners};
-ghost use Rattle.ipc_lock.specs.Upkeeping.{NearCovers};
 
 use ipc_connection::PenPort;
 use std::sync::ledger::Ledger;
-
-/// Near the limit of entries is so far from it that what the greatest number of threads may have
-/// pledged, and what the largest call needs, fits between.
-pub fn near_covers()
-    ensures { NearCovers }
-{}
 
 /// What the events of a log lead to is a kernel with a legal, quiet and paired history.
 pub fn logs_lead_well<C: Ledger, P: PenPort + Drop>()

@@ -12,14 +12,12 @@ mod seen;
 mod stepping;
 mod waking;
 
-use crate::events::Event;
-use crate::gift_log::GiftLog;
 use crate::inside::Inside;
-use crate::numbers::Numbers;
-pub use counted::{MarkBook, TickBook};
+pub use counted::{MarkBook, MoveBook, TickBook};
+use ipc_base::{Keeper, Naming};
 use ipc_connection::PenPort;
 use ipc_core::{Limits, Refusal};
-use ipc_log::{Keeper, Naming};
+use ipc_seats::{Event, GiftLog, Numbers};
 use std::alloc::Global;
 use std::marker::Model;
 use std::sync::ledger::{Blank, Ledger};

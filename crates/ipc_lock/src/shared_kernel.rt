@@ -1,8 +1,8 @@
 //! The kernel and the boxes under one lock. Here it is only taken; what is done under it stands in
 //! its own files.
 ghost use Rattle.std.specs.Prelude.{◌≡◌, ◌^◌, [], IfSome, IfNone, IfErr, IfOk, ◌+◌};
+ghost use Rattle.ipc_seats.specs.Acting.{AnswersStep, GivesSeat, HandsBack};
 ghost use Rattle.ipc_lock.specs.Above.{ActsSome, GivesSome, NotLiveSome};
-ghost use Rattle.ipc_lock.specs.Acting.{AnswersStep, GivesSeat, HandsBack};
 ghost use Rattle.ipc_lock.specs.Rounds.{Carries};
 
 mod connecting;
@@ -11,16 +11,12 @@ mod parting;
 mod reading;
 mod working;
 
-use crate::blank_log::BlankLog;
-use crate::errands::Errands;
-use crate::events::Event;
 use crate::inside::After;
 use crate::logged::Logged;
-use crate::roll::Roll;
-use crate::seated::{Answered, CallSeat, TakeSeat, Taken};
+use ipc_base::{Log, Naming};
 use ipc_connection::PenPort;
 use ipc_core::{Command, Limits, Refusal};
-use ipc_log::{Log, Naming};
+use ipc_seats::{Answered, BlankLog, CallSeat, Errands, Event, Roll, TakeSeat, Taken};
 use std::alloc::Global;
 use std::sync::ledger::{Blank, Ledger};
 use std::sync::{Condvar, Mutex, Wait};

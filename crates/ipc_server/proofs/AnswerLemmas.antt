@@ -4,8 +4,8 @@ use Rattle.ipc_connection.specs.declared.asking.Request.{Request}
 use Rattle.ipc_connection.specs.declared.asking.Request.TheVariants.{Open, Enter, Exreg}
 use Rattle.ipc_connection.specs.declared.replying.Told.{Told}
 use Rattle.ipc_connection.specs.declared.replying.Told.TheVariants.{Opened, Entered, Exchanged, Refused, Faulted, Left}
-use Rattle.ipc_lock.specs.Acting.{Asked}
-use Rattle.ipc_lock.specs.declared.seated.seats.CallSeat.{CallSeat}
+use Rattle.ipc_seats.specs.Acting.{Asked}
+use Rattle.ipc_seats.specs.declared.seated.seats.CallSeat.{CallSeat}
 use Rattle.ipc_session.specs.Serving.{IsAnswer}
 
 pub asked_answers : {C : Type 0} (told : Told) (request : Request) (seat after : Option (CallSeat C)) → Asked told request seat after

@@ -6,10 +6,10 @@ use Rattle.ipc_connection.specs.KernelCalls.{posted}
 use Rattle.ipc_connection.specs.declared.asking.Request.{Request}
 use Rattle.ipc_connection.specs.declared.replying.Told.{Told}
 use Rattle.ipc_frame.specs.declared.frame.Frame.{Frame}
+use Rattle.ipc_seats.specs.declared.events.Event.{Event}
 use Rattle.ipc_lock.specs.Above.{ConnectsSome, FindsNone, HandsOut}
 use Rattle.ipc_lock.specs.declared.ends.PostEnd.{PostEnd}
-use Rattle.ipc_lock.specs.declared.events.Event.{Event}
-use Rattle.ipc_log.specs.Views.{Known}
+use Rattle.ipc_base.specs.LogViews.{Known}
 use Rattle.ipc_server.specs.declared.noted.NotedEnd.{NotedEnd}
 use Rattle.ipc_server.specs.Doing.{AsksBy, BreaksBy, DidAll, Does, DoesSome, IsAtHome, IsNew, PostsBy, PostsIfLeft, PostsWith, ReadsBy, ServesOne, begun}
 use Rattle.ipc_session.specs.Keeping.{call_of}

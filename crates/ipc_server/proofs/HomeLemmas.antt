@@ -5,14 +5,14 @@ use Rattle.std.specs.List.{list_any}
 use Rattle.ipc_connection.specs.declared.asking.Request.{Request}
 use Rattle.ipc_connection.specs.declared.replying.Told.{Told}
 use Rattle.ipc_frame.specs.declared.frame.Frame.{Frame}
+use Rattle.ipc_seats.specs.Owning.{is_by}
+use Rattle.ipc_seats.specs.declared.events.Event.{Event}
+use Rattle.ipc_seats.specs.declared.events.Event.TheVariants as event
 use Rattle.ipc_lock.specs.Above.{AsksOrRefuses, FindsNone, PostsOrDrops}
 use Rattle.ipc_lock.specs.Logs.{is_box_of, is_release}
-use Rattle.ipc_lock.specs.Owning.{is_by}
 use Rattle.ipc_lock.specs.declared.ends.PostEnd.{PostEnd}
-use Rattle.ipc_lock.specs.declared.events.Event.{Event}
-use Rattle.ipc_lock.specs.declared.events.Event.TheVariants as event
 use Rattle.ipc_lock.proofs.Homes.{logs_keep_boxes}
-use Rattle.ipc_log.specs.Views.{Known}
+use Rattle.ipc_base.specs.LogViews.{Known}
 use Rattle.ipc_server.specs.Doing.{AsksBy, BreaksBy, DidAll, Does, PostsBy, begun}
 use Rattle.ipc_session.specs.declared.deed.Deed.{Deed}
 use Rattle.ipc_session.specs.declared.deed.Deed.TheVariants as deed

@@ -3,14 +3,14 @@ use Rattle.std.proofs.Common.{◌≡◌, ◌==◌, ◌++◌, ◌∷◌, [], ℕ,
 use Rattle.std.specs.List.{AllByRecursion, IsDistinct, list_any}
 use Rattle.std.specs.Prelude.{Contains, IfNone, IfSome, option_and_then}
 use mathlib.Core.List.{IsPrefix}
+use Rattle.ipc_seats.specs.Owning.{done_by, ended_by, is_by}
+use Rattle.ipc_seats.specs.declared.events.Event.{Event}
+use Rattle.ipc_seats.specs.declared.events.Event.TheVariants as event
 use Rattle.ipc_lock.specs.Above.{EndsAll, FindsNone, HandsOut}
 use Rattle.ipc_lock.specs.Logs.{is_box_of}
-use Rattle.ipc_lock.specs.Owning.{done_by, ended_by, is_by}
 use Rattle.ipc_lock.specs.declared.ends.PostEnd.{PostEnd}
-use Rattle.ipc_lock.specs.declared.events.Event.{Event}
-use Rattle.ipc_lock.specs.declared.events.Event.TheVariants as event
-use Rattle.ipc_log.proofs.Rows.{ends_last_at, entries_more, entries_one, numbers_one}
-use Rattle.ipc_log.specs.Rules.{EndsLast, EndsOnce, numbers_of}
+use Rattle.ipc_base.proofs.LogRows.{ends_last_at, entries_more, entries_one, numbers_one}
+use Rattle.ipc_base.specs.LogRules.{EndsLast, EndsOnce, numbers_of}
 use Rattle.ipc_server.specs.Doing.{DidAll}
 use Rattle.ipc_server.specs.Services.{AreServed, IsServed, ServesAll, WasServed, came_before, number_of, read_by, with_sent}
 use Rattle.ipc_server.specs.declared.served.Service.{Service}

@@ -6,11 +6,11 @@ use Rattle.ipc_connection.specs.declared.asking.Request.{Request}
 use Rattle.ipc_connection.specs.declared.replying.Told.{Told}
 use Rattle.ipc_frame.specs.declared.frame.Frame.{Frame}
 use Rattle.ipc_frame.specs.declared.frame.Frame.TheVariants as frame
+use Rattle.ipc_seats.specs.Acting.{Asked}
+use Rattle.ipc_seats.specs.declared.events.Event.{Event}
 use Rattle.ipc_lock.specs.Above.{AsksOrRefuses, ConnectsSome, HandsOut, HangsUpSome, PostsOrDrops}
-use Rattle.ipc_lock.specs.Acting.{Asked}
 use Rattle.ipc_lock.specs.declared.ends.PostEnd.{PostEnd}
-use Rattle.ipc_lock.specs.declared.events.Event.{Event}
-use Rattle.ipc_log.specs.Views.{Known}
+use Rattle.ipc_base.specs.LogViews.{Known}
 use Rattle.ipc_session.specs.Keeping.{call_of}
 use Rattle.ipc_session.specs.Sessions.{MayAskFor}
 use Rattle.ipc_session.specs.declared.deed.Deed.{Deed}

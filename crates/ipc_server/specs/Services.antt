@@ -2,13 +2,13 @@
 use Rattle.std.specs.Prelude.{◌≡◌, ◌==◌, ◌++◌, ◌∷◌, [], ℕ, Bool, Contains, List, Option, Some, None, map, true}
 use Rattle.std.specs.List.{AllByRecursion, IsDistinct, list_any}
 use mathlib.Core.List.{IsPrefix}
+use Rattle.ipc_seats.specs.Owning.{done_by, ended_by}
+use Rattle.ipc_seats.specs.declared.events.Event.{Event}
+use Rattle.ipc_seats.specs.declared.events.Event.TheVariants as event
 use Rattle.ipc_lock.specs.InsideParts.{InsideParts}
 use Rattle.ipc_lock.specs.Logs.{is_box_of}
-use Rattle.ipc_lock.specs.Owning.{done_by, ended_by}
 use Rattle.ipc_lock.specs.Turns.{Runs}
-use Rattle.ipc_lock.specs.declared.events.Event.{Event}
-use Rattle.ipc_lock.specs.declared.events.Event.TheVariants as event
-use Rattle.ipc_log.specs.Rules.{numbers_of}
+use Rattle.ipc_base.specs.LogRules.{numbers_of}
 use Rattle.ipc_server.specs.Doing.{DoesSome}
 use Rattle.ipc_server.specs.declared.served.Service.{Service}
 use Rattle.ipc_session.specs.Keeping.{call_of}

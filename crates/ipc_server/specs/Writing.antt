@@ -1,7 +1,7 @@
 -- What the writer of a connection does.
 use Rattle.std.specs.Prelude.{ℕ, Some, false}
+use Rattle.ipc_seats.specs.Places.{OnlyWrites}
 use Rattle.ipc_lock.specs.Above.{EndsSome, EndsWorkSome, LaysSome, TakesOutSome}
-use Rattle.ipc_lock.specs.Places.{OnlyWrites}
 use Rattle.ipc_connection.specs.Pens.{Page}
 
 -- it was written with a pen, which was given nothing, and the pen was laid down in the box of its

@@ -4,27 +4,31 @@ ghost use Rattle.std.specs.Prelude.{◌≡◌, [], Some, option_map};
 ghost use Rattle.ipc_server.specs.Doing.{ServesOne};
 ghost use Rattle.ipc_server.specs.Services.{ServesAll};
 
+use crate::admitting::{Newcomer, admit, miss};
 use crate::control::answer_askers;
 use crate::counters::counters_now;
 use crate::lacking::tell_lack;
+use crate::probe::probe;
+use crate::ready::tell_open;
 use crate::served::Served;
 use crate::services::{AllServed, Services};
 use crate::serving::{Ports, serve_connection, start_worker};
 use crate::socket::{Guest, SocketGate};
 use crate::working::{Alarm, OverGate, Worker};
-use ipc_host::{Admission, EagerStream, Notice, SocketPort, inode_of};
+use ipc_host::{EagerStream, SocketPort};
 use ipc_lock::Naming;
 use ipc_session::{Open, move_loop, tick_loop};
-use ipc_tracing::{Host, Listener, Server};
-use std::io::ErrorKind;
+use ipc_tracing::{Exit, Host, Listener, Server};
+use l4sh_options::ServerOptions;
+use std::net::{Net, TcpListener, TcpStream};
 use std::os::unix::net::UnixStream;
 use std::rt::Clock;
 use std::sync::atomic::{AtomicBool, Ordering};
 use std::sync::ledger::Ledger;
 use std::sync::{Arc, Mutex, Wait};
+use std::thread;
 use std::thread::{Scope, Threads};
 use std::time::Duration;
-use std::{fmt, io, thread};
 
 /// How long the worker of signals sleeps in each turn, in milliseconds.
 const SIGNAL_TURN: u64 = 100;
@@ -32,19 +36,26 @@ const SIGNAL_TURN: u64 = 100;
 /// How often counters are told, in seconds.
 const LOG_TURN: u64 = 60;
 
-/// After how long a connection that waits for room is told of, in milliseconds.
-const ROOM_TURN: u64 = 100;
-
 /// Serves all paths until each has had its connections and these have ended, or the service was
-/// stopped. False where a worker could not be started. The connections that were served come back,
-/// all of one log: each that the log knows is among them, once, and was served as it says.
+/// stopped. It is told once all workers are there; an error where one could not be started, or it
+/// could not be told. The connections that were served come back, all of one log: each that the log
+/// knows is among them, once, and was served as it says. Where a client of the program's own is
+/// asked for, it is noted once the word that it got was printed.
 pub fn serve_all<C: Naming + Send, T: Ledger + Send, R>(
     server: &Server<'_, C, T, SocketPort, R>,
     host: &Host,
+    options: &ServerOptions<'_>,
+    is_told: &AtomicBool,
     services: Services<C, SocketPort>,
-) -> (bool, AllServed<C, SocketPort>)
+) -> (Result<(), Exit>, AllServed<C, SocketPort>)
 where
-    R: Threads + Wait + Clock + Eprint + Sync,
+    R: Threads
+        + Wait
+        + Clock
+        + Net<Listener = TcpListener, Stream = TcpStream>
+        + Print
+        + Eprint
+        + Sync,
     ensures { ServesAll C SocketPort result.1.log result.1.all }
 {
     let over = AtomicBool::new(false);
@@ -56,11 +67,14 @@ where
             ensures { ServesAll C SocketPort result.1.log result.1.all }
         {
             let services = Mutex::new(services);
-            let started = start_others(scope, server, host, over)
-                && accept_all(server, host, &services);
+            let begun = if start_others(scope, server, host, over) {
+                accept_all(server, host, options, is_told, &services)
+            } else {
+                Err(Exit::NoWorker)
+            };
             host.finish(server.rt);
             over.store(true, Ordering::SeqCst);
-            (started, services.into_inner().end_work(server))
+            (begun, services.into_inner().end_work(server))
         },
     )
 }
@@ -137,26 +151,86 @@ fn move_blocks<C: Naming, T: Ledger, R: Wait + Clock>(server: &Server<'_, C, T, 
     let _ = move_loop(&mut work_port, &mut Open::new(u64::MAX));
 }
 
-/// One worker for each path, until all have ended. False where one could not be started; the others
-/// are then stopped.
+/// One worker for each path, until all have ended; it is told once all are there. An error where
+/// one could not be started, or it could not be told; the others are then stopped.
 fn accept_all<C: Naming + Send, T: Ledger + Send, R>(
     server: &Server<'_, C, T, SocketPort, R>,
     host: &Host,
+    options: &ServerOptions<'_>,
+    is_told: &AtomicBool,
     services: &Mutex<Services<C, SocketPort>>,
-) -> bool
+) -> Result<(), Exit>
 where
-    R: Threads + Wait + Clock + Eprint + Sync,
+    R: Threads
+        + Wait
+        + Clock
+        + Net<Listener = TcpListener, Stream = TcpStream>
+        + Print
+        + Eprint
+        + Sync,
 {
     thread::scope(thread::scope_env(), server.rt, |scope| {
-        for listener in &host.listeners {
-            let started = start_worker(scope, move || accept(server, host, services, listener));
-            if started.is_err() {
-                host.stop(server.rt);
-                return false;
-            }
+        let begun = start_all(scope, server, host, options, is_told, services);
+        if begun.is_err() {
+            host.stop(server.rt);
         }
-        true
+        begun
     })
+}
+
+/// Starts a worker for each path, tells that clients can connect, and starts the client of the
+/// program's own where it is asked for.
+fn start_all<'s, E, C: Naming + Send, T: Ledger + Send, R>(
+    scope: &Scope<'s, E>,
+    server: &'s Server<'_, C, T, SocketPort, R>,
+    host: &'s Host,
+    options: &ServerOptions<'_>,
+    is_told: &'s AtomicBool,
+    services: &'s Mutex<Services<C, SocketPort>>,
+) -> Result<(), Exit>
+where
+    R: Threads
+        + Wait
+        + Clock
+        + Net<Listener = TcpListener, Stream = TcpStream>
+        + Print
+        + Eprint
+        + Sync,
+{
+    for listener in &host.listeners {
+        let started = start_worker(scope, move || accept(server, host, services, listener));
+        if started.is_err() {
+            return Err(Exit::NoWorker);
+        }
+    }
+    tell_open(server.rt, server.alloc, host, options)?;
+    if !options.probe {
+        return Ok(());
+    }
+    match start_worker(scope, move || tell_probe(server, host, is_told)) {
+        Ok(()) => Ok(()),
+        Err(_) => Err(Exit::NoWorker),
+    }
+}
+
+/// Prints the word that the client of the program's own gets over the first path, and notes that it
+/// was printed.
+fn tell_probe<C: Naming, T: Ledger, R>(
+    server: &Server<'_, C, T, SocketPort, R>,
+    host: &Host,
+    is_told: &AtomicBool,
+)
+where
+    R: Threads + Wait + Clock + Net<Listener = TcpListener, Stream = TcpStream> + Print + Sync,
+{
+    let rt = server.rt;
+    let Some(listener) = host.listeners.first() else {
+        return;
+    };
+    if let Some(word) = probe(rt, server.alloc, listener.door.path.as_str()) {
+        let is_printed = println!(rt; "probe {word:#x}").is_ok();
+        is_told.store(is_printed, Ordering::SeqCst);
+    }
 }
 
 /// Takes connections until the path has had its number, if it has one, or the service is stopped,
@@ -201,122 +275,6 @@ where
             }
         }
     });
-}
-
-/// A connection that was taken in.
-#[derive(Drop)]
-struct Newcomer {
-    space: u64,
-    ticket: u64,
-    stream: Arc<UnixStream>,
-    /// The inode of its socket, where the system tells it.
-    inode: Option<u64>,
-}
-
-/// Takes a connection in, once there is room for it. None: the server stops, or there is no memory,
-/// which is told; the connection is then closed.
-fn admit<C: Naming, T: Ledger, R: Wait + Clock + Eprint>(
-    server: &Server<'_, C, T, SocketPort, R>,
-    host: &Host,
-    space: u64,
-    stream: UnixStream,
-) -> Option<Newcomer> {
-    let newcomer = newcomer_of(server, host, space, stream);
-    if newcomer.is_none() && !host.guests.is_stopping(server.rt) {
-        let error = io::Error::from(ErrorKind::OutOfMemory);
-        tell_lack(server.rt, host, space, error);
-    }
-    newcomer
-}
-
-/// The same, and nothing is told.
-fn newcomer_of<C: Naming, T: Ledger, R: Wait + Clock + Eprint>(
-    server: &Server<'_, C, T, SocketPort, R>,
-    host: &Host,
-    space: u64,
-    stream: UnixStream,
-) -> Option<Newcomer> {
-    let stream = Arc::new(server.alloc, stream).ok()?;
-    let ticket = ticket_of(server.rt, host, space, &stream)?;
-    let inode = inode_of(server.alloc, &stream);
-    Some(Newcomer {
-        space,
-        ticket,
-        stream,
-        inode,
-    })
-}
-
-/// Waits for room for a connection, tells it where that takes long, and answers its ticket. None:
-/// it is to be closed.
-fn ticket_of<R: Wait + Clock + Eprint>(
-    rt: &R,
-    host: &Host,
-    space: u64,
-    stream: &Arc<UnixStream>,
-) -> Option<u64> {
-    let mut is_told = false;
-    for _ in rt.forever() {
-        match host
-            .guests
-            .admit(rt, stream, Duration::from_millis(ROOM_TURN))
-        {
-            Admission::Entered(ticket) => return Some(ticket),
-            Admission::Closed => return None,
-            Admission::Full => {
-                tell_wait(rt, host, space, is_told);
-                is_told = true;
-            }
-        }
-    }
-    None
-}
-
-/// Tells that a connection waits for room: once a minute that the server is full. Each such
-/// connection is counted once, and told to the log.
-fn tell_wait<R: Wait + Clock + Eprint>(rt: &R, host: &Host, space: u64, is_told: bool) {
-    host.tell_full(rt);
-    if is_told {
-        return;
-    }
-    host.guests.count(rt, Notice::Waits);
-    if host.is_logged {
-        host.lines.tell(rt, &Waiting { space });
-    }
-}
-
-/// A connection that waits for room, as the log says it.
-#[derive(Clone, Copy)]
-struct Waiting {
-    space: u64,
-}
-
-impl fmt::Display for Waiting {
-    fn fmt<W: fmt::Write>(&self, f: &mut fmt::Formatter<W>) -> fmt::Result {
-        let space = self.space;
-        write!(
-            f,
-            "l4d: {} for a connection of space {space}",
-            Notice::Waits
-        )
-    }
-}
-
-/// What follows an accept that failed.
-fn miss<C: Naming, T: Ledger, R: Wait + Clock + Eprint>(
-    server: &Server<'_, C, T, SocketPort, R>,
-    host: &Host,
-    error: io::Error,
-) {
-    let is_passing = matches!(
-        error.kind(),
-        ErrorKind::Interrupted | ErrorKind::ConnectionAborted
-    );
-    if is_passing || host.guests.is_stopping(server.rt) {
-        return;
-    }
-    host.complain(server.rt, "no connection can be accepted", error);
-    host.guests.wait_turn(server.rt);
 }
 
 /// Serves a connection to its end.

@@ -38,6 +38,9 @@ const UNKNOWN: &str =
 /// What is said where the trace is to go on in a further file.
 const ROTATED: &str = "the next entries end the file\n";
 
+/// What is said where the trace goes to a pipe.
+const PIPED: &str = "the trace is a pipe, which is one file to its end\n";
+
 /// What is said where there is no trace.
 const UNTRACED: &str = "no trace: start l4d with --trace FILE\n";
 
@@ -228,7 +231,9 @@ fn rotated<C: Naming, T: Ledger, R: Wait>(
     if let Some(line) = host.trace.stop.line(server.rt, server.alloc)? {
         return Ok(line);
     }
-    let said = if host.trace.end_file() {
+    let said = if host.trace.meter.is_pipe() {
+        PIPED
+    } else if host.trace.end_file() {
         ROTATED
     } else {
         UNTRACED

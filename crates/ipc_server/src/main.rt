@@ -5,6 +5,7 @@ ghost use Rattle.std.specs.Prelude.{◌≡◌, ◌^◌};
 ghost use Rattle.ipc_server.specs.Ending.{EndsServed};
 
 mod accepting;
+mod admitting;
 mod caller;
 mod control;
 mod counters;

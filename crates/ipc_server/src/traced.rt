@@ -18,12 +18,18 @@ use std::rt::{Clock, Files};
 use std::sync::Wait;
 use std::sync::atomic::{AtomicBool, Ordering};
 use std::sync::ledger::{Blank, Ledger};
-use std::thread;
 use std::thread::Threads;
 use std::time::Duration;
+use std::{fmt, thread};
 
 /// How long the worker that watches a pipe sleeps in each turn, in milliseconds.
 const PIPE_TURN: u64 = 100;
+
+/// How long the end sleeps in each turn in which it waits for the trace, in milliseconds.
+const END_TURN: u64 = 5;
+
+/// After how many of these turns it is told for what the end waits.
+const END_TURNS: u32 = 400;
 
 /// Serves the paths, with a trace where one is asked for.
 pub(crate) fn serve_as_asked<C: Naming + Send, T: Ledger + Send, R>(
@@ -163,12 +169,17 @@ fn watch_pipe<C: Naming, T: Ledger, R: Wait + Clock + TraceDisk>(
     }
 }
 
-/// Says on standard error where the trace goes to a pipe, which opens once somebody reads it.
+/// Says on standard error where the trace goes to a pipe, which opens once somebody reads it, and
+/// is one file to its end.
 fn tell_pipe<R: Eprint + TraceDisk>(rt: &R, options: &ServerOptions<'_>) {
     let path = options.trace.unwrap_or("");
-    if rt.is_pipe(path) {
-        // where standard error fails nobody is told
-        let _ = eprintln!(rt; "l4d: {path} is a pipe: l4d waits until somebody reads it");
+    if !rt.is_pipe(path) {
+        return;
+    }
+    // where standard error fails nobody is told
+    let _ = eprintln!(rt; "l4d: {path} is a pipe: l4d waits until somebody reads it");
+    if options.trace_size.is_some() {
+        let _ = eprintln!(rt; "l4d: {path} is one file to its end: --trace-size ends no pipe");
     }
 }
 
@@ -217,12 +228,55 @@ where
         + Eprint
         + Sync,
 {
+    let is_over = AtomicBool::new(false);
+    let is_over = &is_over;
     let (is_whole, served) = thread::join(
         server.rt,
-        move || write_trace(server, host, options, files, trace),
-        move || serve_and_close(server, host, options, services),
+        move || {
+            let is_whole = write_trace(server, host, options, files, trace);
+            is_over.store(true, Ordering::SeqCst);
+            is_whole
+        },
+        move || {
+            let served = serve_and_close(server, host, options, services);
+            tell_slow_end(server.rt, host, options, is_over);
+            served
+        },
     );
     ending_beside(served, is_whole, options.trace_required)
+}
+
+/// Says on standard error where the end waits for what the trace is written to.
+fn tell_slow_end<R: Wait + Clock + Eprint>(
+    rt: &R,
+    host: &Host,
+    options: &ServerOptions<'_>,
+    is_over: &AtomicBool,
+) {
+    for _ in 0..END_TURNS {
+        if is_over.load(Ordering::SeqCst) {
+            return;
+        }
+        thread::sleep(rt, Duration::from_millis(END_TURN));
+    }
+    let path = options.trace.unwrap_or("");
+    host.lines.tell(rt, &SlowEnd { path });
+}
+
+/// What is said where the end waits for the trace.
+#[derive(Clone, Copy)]
+struct SlowEnd<'a> {
+    path: &'a str,
+}
+
+impl fmt::Display for SlowEnd<'_> {
+    fn fmt<W: fmt::Write>(&self, f: &mut fmt::Formatter<W>) -> fmt::Result {
+        write!(
+            f,
+            "l4d: ends once {} has taken the rest of the trace; SIGKILL ends it at once",
+            self.path
+        )
+    }
 }
 
 /// How the server ended beside a trace, which may be required.

@@ -1,14 +1,10 @@
 //! The work that no connection asks for: the time is told, and transfers go on.
-ghost use Rattle.std.specs.Prelude.{◌≡◌, ◌+◌, length, true};
-ghost use Rattle.ipc_core.specs.declared.answers.Advance.TheVariants as advance;
-ghost use Rattle.ipc_core.specs.declared.command.Answer.TheVariants.{Advanced};
-ghost use Rattle.ipc_server.specs.Working.{MovesSome};
-ghost use Rattle.ipc_tracing.specs.Working.{TicksSome};
+ghost use Rattle.std.specs.Prelude.{◌≡◌, ◌+◌, ◌∷◌, ◌++◌, [], length};
+ghost use Rattle.ipc_tracing.specs.Working.{MovesSome, TicksSome};
 
 use ipc_base::Past;
 use ipc_connection::PenPort;
-use ipc_core::{Advance, Answer, Command};
-use ipc_lock::{Naming, TickBook};
+use ipc_lock::{MoveBook, Naming, TickBook};
 use ipc_session::{Beat, Gate, WorkPort};
 use ipc_tracing::Server;
 use std::rt::Clock;
@@ -22,6 +18,7 @@ pub struct Worker<'a, C: Naming, T: Ledger, P: PenPort + Drop, R: Wait + Clock> 
     server: &'a Server<'a, C, T, P, R>,
     is_gone: bool,
     ticks: TickBook,
+    moves: MoveBook,
 }
 
 impl<'a, C: Naming, T: Ledger, P: PenPort + Drop, R: Wait + Clock> Worker<'a, C, T, P, R> {
@@ -31,21 +28,17 @@ impl<'a, C: Naming, T: Ledger, P: PenPort + Drop, R: Wait + Clock> Worker<'a, C,
             server,
             is_gone: false,
             ticks: TickBook::new(),
+            moves: MoveBook::new(),
         }
     }
-}
-
-/// Whether an answer says that a part of a transfer was moved.
-fn has_moved(answer: &Answer) -> bool
-    ensures { result ≡ true → answer.now ≡ Advanced advance.Moved }
-{
-    matches!(answer, Answer::Advanced(Advance::Moved))
 }
 
 impl<C: Naming, T: Ledger, P: PenPort + Drop, R: Wait + Clock> WorkPort for Worker<'_, C, T, P, R> {
     ghost gone = { λ port. port.is_gone };
 
     ghost ticks = { λ port. length port.ticks };
+
+    ghost moves = { λ port. port.moves };
 
     fn tick(&mut self)
         ensures ticks { length self.new.ticks ≡ length self.old.ticks + 1 }
@@ -54,14 +47,11 @@ impl<C: Naming, T: Ledger, P: PenPort + Drop, R: Wait + Clock> WorkPort for Work
         self.server.tick(&mut self.ticks);
     }
 
-    #[tactic(auto, using(crate::proofs::WorkLemmas::moves))]
     fn advance(&mut self) -> bool
-        ensures moved { result ≡ true → MovesSome C P }
+        ensures moved { self.new.moves ≡ self.old.moves ++ result ∷ [] }
+        ensures advanced { MovesSome C P result }
     {
-        let answer = self.server.submit(Command::Advance);
-        let has_moved = has_moved(&answer);
-        drop(answer);
-        has_moved
+        self.server.advance(&mut self.moves)
     }
 
     fn wait(&mut self) -> bool {

@@ -1,4 +1,4 @@
-ghost use Rattle.std.specs.Prelude.{◌≡◌, ◌<◌, ℕ, Bool, true, false};
+ghost use Rattle.std.specs.Prelude.{◌≡◌, ◌<◌, ◌+◌, ℕ, Bool, true, false};
 
 /// Counts the turns of a loop, and may say stop.
 pub trait Gate {
@@ -11,6 +11,8 @@ pub trait Gate {
     /// One more turn; false: stop.
     fn turn(&mut self) -> bool
         ensures fewer { result ≡ true → left self.new < left self.old }
+        ensures counts { result ≡ true → left self.old ≡ left self.new + 1 }
+        ensures kept { result ≡ false → left self.new ≡ left self.old }
         ensures stop { result ≡ false → stopped self.new ≡ true };
 }
 

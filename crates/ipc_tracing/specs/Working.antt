@@ -1,17 +1,16 @@
 -- What the workers do that no connection has.
-use Rattle.std.specs.Prelude.{ℕ, List, Option, None}
+use Rattle.std.specs.Prelude.{ℕ, Bool, List, Option, None}
 use Rattle.std.specs.Io.KnownBytes.{Appends}
 use Rattle.ipc_core.specs.declared.command.Answer.{Answer}
-use Rattle.ipc_core.specs.declared.command.Command.{Command}
 use Rattle.ipc_core.specs.declared.command.Command.TheVariants.{At}
 use Rattle.ipc_history.specs.declared.entry.Entry.{Entry}
-use Rattle.ipc_lock.specs.Above.{ActsSome, GroupOfSome}
+use Rattle.ipc_lock.specs.Above.{ActsSome, AdvancesSome, GroupOfSome}
 use Rattle.ipc_trace.specs.Traces.{trace_text}
 
--- a step was made at a moment, by no thread's seat: this command, which was answered so
-pub record SubmitsSome (C P : Type 0) (command : Command) (answer : Answer) : Type 0 where
+-- a step was made that moves a part of what is in transfer, if there is any: whether it did
+pub record MovesSome (C P : Type 0) (moved : Bool) : Type 0 where
   pub now : ℕ
-  pub acts : ActsSome {C = C} P now None command answer
+  pub advances : AdvancesSome C P now moved
 
 -- the kernel was told the moment
 pub record TicksSome (C P : Type 0) : Type 0 where

@@ -25,7 +25,7 @@ pub use exit::Exit;
 pub use following::follow;
 pub use host::{Bound, Host};
 pub use part_answer::answer_with_part;
-pub use paths::{Door, Listener, control, listen, path_of, remove, remove_door};
+pub use paths::{Door, Listener, control, listen, remove, remove_door};
 pub use saying::{NO_MEMORY, say};
 pub use server::Server;
 pub use shared_blocks::SharedBlocks;

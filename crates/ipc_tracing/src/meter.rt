@@ -15,6 +15,8 @@ pub struct Meter {
     failure: AtomicU32,
     /// Whether somebody asked for a further file.
     is_asked: AtomicBool,
+    /// Whether it is a pipe, which is one file to its end.
+    is_pipe: AtomicBool,
 }
 
 impl Meter {
@@ -25,7 +27,18 @@ impl Meter {
             bytes: AtomicU64::new(0),
             failure: AtomicU32::new(0),
             is_asked: AtomicBool::new(false),
+            is_pipe: AtomicBool::new(false),
         }
+    }
+
+    /// It is a pipe, or not.
+    pub(crate) fn note_pipe(&self, is_pipe: bool) {
+        self.is_pipe.store(is_pipe, Ordering::SeqCst);
+    }
+
+    /// Whether it is a pipe, which ends with the trace alone.
+    pub fn is_pipe(&self) -> bool {
+        self.is_pipe.load(Ordering::SeqCst)
     }
 
     /// A further file has begun, which is empty.
@@ -42,7 +55,7 @@ impl Meter {
 
     /// Whether the file ends behind the entries that stand in it.
     pub(crate) fn is_full(&self) -> bool {
-        self.is_asked.load(Ordering::SeqCst) || self.has_most()
+        !self.is_pipe() && (self.is_asked.load(Ordering::SeqCst) || self.has_most())
     }
 
     /// Whether it has as many bytes as it may have.

@@ -185,7 +185,7 @@ fn guard<R: Files>(rt: &R, path: &str, socket: &UnixListener, mode: u32) -> io::
 }
 
 /// The path of a space.
-pub fn path_of(alloc: Global, dir: &str, space: u16) -> Result<String, AllocError> {
+fn path_of(alloc: Global, dir: &str, space: u16) -> Result<String, AllocError> {
     format!(in alloc; "{dir}/space{space}")
 }
 

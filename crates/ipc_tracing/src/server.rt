@@ -1,12 +1,11 @@
-ghost use Rattle.std.specs.Prelude.{◌≡◌, ◌+◌, length};
-ghost use Rattle.ipc_tracing.specs.Working.{SubmitsSome, TicksSome};
+ghost use Rattle.std.specs.Prelude.{◌≡◌, ◌+◌, ◌∷◌, ◌++◌, [], length};
+ghost use Rattle.ipc_tracing.specs.Working.{MovesSome, TicksSome};
 
 use crate::shared_blocks::SharedBlocks;
 use ipc_connection::PenPort;
-use ipc_core::{Answer, Command};
 use ipc_host::ServerClock;
 use ipc_items::FreeBlocks;
-use ipc_lock::{Naming, SharedKernel, TickBook};
+use ipc_lock::{MoveBook, Naming, SharedKernel, TickBook};
 use std::alloc::Global;
 use std::rt::Clock;
 use std::sync::ledger::Ledger;
@@ -50,14 +49,14 @@ impl<'a, C: Naming, T: Ledger, P: PenPort + Drop, R: Wait + Clock> Server<'a, C,
         self.clock.now(self.rt)
     }
 
-    /// Makes one step at this moment, by no thread's seat.
-    pub fn submit(&self, command: Command) -> Answer
-        ensures { SubmitsSome C P command result }
+    /// Moves a part of a transfer, if one is begun, and notes in the book of a mover whether it
+    /// did; false where it did not.
+    pub fn advance(&self, book: &mut MoveBook) -> bool
+        ensures moves { MovesSome C P result }
+        ensures noted { book.new ≡ book.old ++ result ∷ [] }
     {
         let now = self.now();
-        let answered = self.shared.submit(self.rt, now, None, command);
-        let (answer, _, _) = answered.into_parts();
-        answer
+        self.shared.advance(self.rt, now, book)
     }
 
     /// The kernel is told the moment, which is noted in the book of a ticker.

@@ -183,6 +183,7 @@ impl<'a> TraceFiles<'a> {
             Ok(file) => MeteredFile::new(file, self.meter),
             Err(error) => return Err(TraceFault::device(Failed::Opening, error)),
         };
+        self.meter.note_pipe(rt.is_pipe(self.path));
         put_began(rt, alloc, self.path, self.start);
         let Ok(file) = BufWriter::with_capacity(alloc, BUFFER, file) else {
             return Err(TraceFault::from(AllocError));
@@ -208,8 +209,8 @@ impl<'a> TraceFiles<'a> {
 
     fn renamed<R: TraceDisk>(self, rt: &R, alloc: Global) -> io::Result<()> {
         if !rt.is_regular(self.path) {
-            // a device or a pipe is nobody's to rename: what comes goes there, too; and a FILE that
-            // somebody moved away is not there to be renamed
+            // a device is nobody's to rename: what comes goes there, too; and a FILE that somebody
+            // moved away is not there to be renamed
             return Ok(());
         }
         let count = self.older(rt, alloc)?;

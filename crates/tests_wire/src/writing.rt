@@ -102,6 +102,7 @@ struct FakeWork {
     ticks: u32,
     parts: u32,
     ticked: Past<()>,
+    moved: Past<bool>,
 }
 
 impl WorkPort for FakeWork {
@@ -109,17 +110,18 @@ impl WorkPort for FakeWork {
 
     ghost ticks = { λ port. length port.ticked };
 
+    ghost moves = { λ port. port.moved };
+
     fn tick(&mut self) {
         self.ticks = self.ticks.saturating_add(1);
         self.ticked.add(&());
     }
 
     fn advance(&mut self) -> bool {
-        if self.parts == 0 {
-            return false;
-        }
-        self.parts -= 1;
-        true
+        let is_left = self.parts != 0;
+        self.parts = self.parts.saturating_sub(1);
+        self.moved.add(&is_left);
+        is_left
     }
 
     fn wait(&mut self) -> bool {
@@ -146,6 +148,7 @@ fn work_is_done_until_the_gate_says_stop(rt: HostRuntime) {
         ticks: 0,
         parts: 3,
         ticked: Past::new(),
+        moved: Past::new(),
     };
     let mut clock = NoPause { turns: Past::new() };
     tick_loop(&mut clock, &mut work_port, &mut Open::new(2));

@@ -2,24 +2,24 @@
 ghost use Rattle.ipc_connection.specs.Asking.{command_of, version_asked};
 ghost use Rattle.std.specs.Prelude.{◌≡◌, Some, slice_set, vec_capacity};
 ghost use Rattle.ipc_history.specs.Legal.{Legal};
-ghost use Rattle.ipc_lock.specs.Acting.{Asked, AsksOn};
-ghost use Rattle.ipc_lock.specs.Boxes.{changed_at, posted_to, seat_parts, take_parts, welcomed};
-ghost use Rattle.ipc_lock.specs.Noting.{NotesOn};
-ghost use Rattle.ipc_lock.specs.Places.{new_seat, owned_by, told_in};
+ghost use Rattle.ipc_seats.specs.Acting.{Asked, AsksOn};
+ghost use Rattle.ipc_seats.specs.Boxes.{changed_at, posted_to, seat_parts, take_parts, welcomed};
+ghost use Rattle.ipc_seats.specs.Noting.{NotesOn};
+ghost use Rattle.ipc_seats.specs.Places.{new_seat, owned_by, told_in};
 ghost use Rattle.ipc_words.specs.ThreadId.{number_of};
 
 use super::Inside;
-use crate::seated::{CallSeat, TakeSeat};
+use ipc_base::Naming;
 use ipc_connection::{PenPort, Request, Told, command_of, told_of, version_asked};
 use ipc_core::EnterRefused;
 use ipc_frame::WireVersion;
-use ipc_log::Naming;
+use ipc_seats::{CallSeat, TakeSeat};
 use std::sync::ledger::Ledger;
 
 impl<C: Naming, T: Ledger, P: PenPort + Drop> Inside<C, T, P> {
     /// Makes the step of a reader's request, and tells in its box what the kernel accepted. The
     /// outcomes of a thread that is opened so are told in this box from here on.
-    #[tactic(auto, unfolding(crate::specs::Acting::AnswersStep, crate::specs::Acting::Asked))]
+    #[tactic(auto, unfolding(ipc_seats::specs::Acting::AnswersStep, ipc_seats::specs::Acting::Asked))]
     pub(super) fn ask(
         &mut self,
         now: u64,
@@ -58,7 +58,7 @@ impl<C: Naming, T: Ledger, P: PenPort + Drop> Inside<C, T, P> {
 
     /// The same, of any request. Few are no calls.
     #[inline(never)]
-    #[tactic(auto, using(crate::proofs::Steps::asked_so, crate::proofs::Moves::told_so, crate::proofs::Moves::owned_so))]
+    #[tactic(auto, using(ipc_seats::proofs::Steps::asked_so, ipc_seats::proofs::Moves::told_so, ipc_seats::proofs::Moves::owned_so))]
     fn ask_other(
         &mut self,
         now: u64,
@@ -112,7 +112,7 @@ impl<C: Naming, T: Ledger, P: PenPort + Drop> Inside<C, T, P> {
     }
 
     /// The seat's thread is told in this box from here on, first of all its WELCOME.
-    #[tactic(auto, using(crate::proofs::Moves::changed_there, crate::proofs::Moves::changed_none, crate::proofs::Moves::set_none))]
+    #[tactic(auto, using(ipc_seats::proofs::Moves::changed_there, ipc_seats::proofs::Moves::changed_none, ipc_seats::proofs::Moves::set_none))]
     pub(super) fn welcome(&mut self, place: usize, seat: TakeSeat<T>, version: WireVersion)
         ensures welcomed { self.new.boxes.items ≡ changed_at (welcomed (take_parts seat) version)
             self.old.boxes.items place }
@@ -131,7 +131,7 @@ impl<C: Naming, T: Ledger, P: PenPort + Drop> Inside<C, T, P> {
     }
 
     /// Leaves what is told. A full or shut box, or one that is not there, drops it.
-    #[tactic(auto, using(crate::proofs::Moves::changed_there, crate::proofs::Moves::changed_none))]
+    #[tactic(auto, using(ipc_seats::proofs::Moves::changed_there, ipc_seats::proofs::Moves::changed_none))]
     pub(crate) fn post(&mut self, place: usize, told: Told)
         ensures posted { self.new.boxes.items
             ≡ changed_at (posted_to told) self.old.boxes.items place }

@@ -1,16 +1,15 @@
 //! The boxes of connections: made, given back, and looked at.
 ghost use Rattle.std.specs.Prelude.{◌≡◌, [], IfOk, IfSome, MatchBool, OnErr, if◌then◌else◌, map, slice_get, vec_capacity, vec_len};
 ghost use Rattle.std.specs.List.{list_any};
-ghost use Rattle.ipc_lock.specs.Boxes.{changed_at, has_connection, new_box};
-ghost use Rattle.ipc_lock.specs.Giving.{all_given};
-ghost use Rattle.ipc_lock.specs.Places.{ConnectsAt, Frees, disowned, gives_back, is_empty_in, is_free_in, is_in, is_out, is_shut_in, pen_in};
+ghost use Rattle.ipc_seats.specs.Boxes.{changed_at, has_connection, new_box};
+ghost use Rattle.ipc_seats.specs.Giving.{all_given};
+ghost use Rattle.ipc_seats.specs.Places.{ConnectsAt, Frees, disowned, gives_back, is_empty_in, is_free_in, is_in, is_out, is_shut_in, pen_in};
 ghost use Rattle.ipc_connection.specs.Pens.{BeginsEmpty, new_page};
 
 use super::Inside;
-use crate::events::Gave;
-use crate::post_box::{Loaded, PostBox};
+use ipc_base::{Naming, Own};
 use ipc_connection::PenPort;
-use ipc_log::{Naming, Own};
+use ipc_seats::{Gave, Loaded, PostBox};
 use std::alloc::AllocError;
 use std::sync::ledger::Ledger;
 use std::sync::{Arc, Condvar};
@@ -36,7 +35,7 @@ fn disowned(owner: Option<usize>, place: usize) -> Option<usize>
 
 impl<C: Naming, T: Ledger, P: PenPort + Drop> Inside<C, T, P> {
     /// Whether nothing is posted in the box. One that is not there counts as empty.
-    #[tactic(auto, using(crate::proofs::Moves::there, crate::proofs::Moves::none_there))]
+    #[tactic(auto, using(ipc_seats::proofs::Moves::there, ipc_seats::proofs::Moves::none_there))]
     pub(crate) fn is_empty(&self, place: usize) -> bool
         ensures { result ≡ is_empty_in (slice_get self.now.boxes.items place) }
     {
@@ -47,7 +46,7 @@ impl<C: Naming, T: Ledger, P: PenPort + Drop> Inside<C, T, P> {
     }
 
     /// Whether the box was shut. One that is not there counts as shut.
-    #[tactic(auto, using(crate::proofs::Moves::there, crate::proofs::Moves::none_there))]
+    #[tactic(auto, using(ipc_seats::proofs::Moves::there, ipc_seats::proofs::Moves::none_there))]
     pub(crate) fn is_shut(&self, place: usize) -> bool
         ensures { result ≡ is_shut_in (slice_get self.now.boxes.items place) }
     {
@@ -69,7 +68,7 @@ impl<C: Naming, T: Ledger, P: PenPort + Drop> Inside<C, T, P> {
 
     /// An empty box with the pen of a port, for the connection of this number: one that was given
     /// back, else a new one.
-    #[tactic(auto, using(crate::proofs::Moves::set_same))]
+    #[tactic(auto, using(ipc_seats::proofs::Moves::set_same))]
     pub(crate) fn connect(
         &mut self,
         port: P,
@@ -117,7 +116,7 @@ impl<C: Naming, T: Ledger, P: PenPort + Drop> Inside<C, T, P> {
     }
 
     /// Whether the box of a place is there, and is no connection's.
-    #[tactic(auto, using(crate::proofs::Moves::there, crate::proofs::Moves::none_there))]
+    #[tactic(auto, using(ipc_seats::proofs::Moves::there, ipc_seats::proofs::Moves::none_there))]
     fn is_free(&self, place: usize) -> bool
         ensures { result ≡ is_free_in (slice_get self.now.boxes.items place) }
     {
@@ -152,7 +151,7 @@ impl<C: Naming, T: Ledger, P: PenPort + Drop> Inside<C, T, P> {
     }
 
     /// Nothing is left in the box of a place, where it is that of this connection.
-    #[tactic(auto, using(crate::proofs::Moves::changed_there, crate::proofs::Moves::changed_none, crate::proofs::Moves::there, crate::proofs::Moves::none_there))]
+    #[tactic(auto, using(ipc_seats::proofs::Moves::changed_there, ipc_seats::proofs::Moves::changed_none, ipc_seats::proofs::Moves::there, ipc_seats::proofs::Moves::none_there))]
     fn clear(&mut self, place: usize, number: u64) -> Option<Loaded<C, P>>
         ensures clears { self.new.boxes.items
             ≡ changed_at (gives_back number) self.old.boxes.items place }
@@ -168,7 +167,7 @@ impl<C: Naming, T: Ledger, P: PenPort + Drop> Inside<C, T, P> {
     }
 
     /// Whether the box of a place is that of the connection of this number, and its pen is out.
-    #[tactic(auto, using(crate::proofs::Moves::there, crate::proofs::Moves::none_there))]
+    #[tactic(auto, using(ipc_seats::proofs::Moves::there, ipc_seats::proofs::Moves::none_there))]
     pub(crate) fn is_out(&self, place: usize, number: u64) -> bool
         ensures { result ≡ is_out number (slice_get self.now.boxes.items place) }
     {
@@ -179,7 +178,7 @@ impl<C: Naming, T: Ledger, P: PenPort + Drop> Inside<C, T, P> {
     }
 
     /// Whether the box of a place is that of the connection of this number.
-    #[tactic(auto, using(crate::proofs::Moves::there, crate::proofs::Moves::none_there))]
+    #[tactic(auto, using(ipc_seats::proofs::Moves::there, ipc_seats::proofs::Moves::none_there))]
     pub(crate) fn is_in(&self, place: usize, number: u64) -> bool
         ensures { result ≡ is_in number (slice_get self.now.boxes.items place) }
     {

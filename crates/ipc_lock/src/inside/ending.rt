@@ -1,23 +1,22 @@
 //! The end of a connection.
 ghost use Rattle.std.specs.Prelude.{◌≡◌, None, IfNone, slice_get};
-ghost use Rattle.ipc_lock.specs.Boxes.{changed_at};
+ghost use Rattle.ipc_seats.specs.Boxes.{changed_at};
+ghost use Rattle.ipc_seats.specs.Places.{Ends, EndsAt, OnlyLoads, shut_for, thread_for};
 ghost use Rattle.ipc_lock.specs.Handing.{Hands};
-ghost use Rattle.ipc_lock.specs.Places.{Ends, EndsAt, OnlyLoads, shut_for, thread_for};
 ghost use Rattle.ipc_lock.specs.Telling.{BreaksFor, BrokeFor};
 
 use super::{After, Inside};
-use crate::errands::Errands;
-use crate::gift_log::GiftLog;
+use ipc_base::Naming;
 use ipc_connection::PenPort;
 use ipc_core::Command;
-use ipc_log::Naming;
+use ipc_seats::{Errands, GiftLog};
 use ipc_words::ThreadId;
 use std::sync::ledger::Ledger;
 
 impl<C: Naming, T: Ledger, P: PenPort + Drop> Inside<C, T, P> {
     /// Shuts the box of the connection of this number, and ends the thread that is told there. None
     /// where there is none.
-    #[tactic(auto, using(crate::proofs::Moves::loads_none, crate::proofs::Handed::hands_none))]
+    #[tactic(auto, using(ipc_seats::proofs::Moves::loads_none, crate::proofs::Handed::hands_none))]
     pub(crate) fn end_at(
         &mut self,
         now: u64,
@@ -75,7 +74,7 @@ impl<C: Naming, T: Ledger, P: PenPort + Drop> Inside<C, T, P> {
     }
 
     /// Shuts the box of a place, where it is that of the connection of this number.
-    #[tactic(auto, using(crate::proofs::Moves::changed_there, crate::proofs::Moves::changed_none))]
+    #[tactic(auto, using(ipc_seats::proofs::Moves::changed_there, ipc_seats::proofs::Moves::changed_none))]
     fn shut(&mut self, place: usize, number: u64)
         ensures shut { self.new.boxes.items
             ≡ changed_at (shut_for number) self.old.boxes.items place }
@@ -90,7 +89,7 @@ impl<C: Naming, T: Ledger, P: PenPort + Drop> Inside<C, T, P> {
 
     /// The thread whose outcomes are told in the box of a place, where that is the box of the
     /// connection of this number.
-    #[tactic(auto, using(crate::proofs::Moves::there, crate::proofs::Moves::none_there))]
+    #[tactic(auto, using(ipc_seats::proofs::Moves::there, ipc_seats::proofs::Moves::none_there))]
     fn thread_at(&self, place: usize, number: u64) -> Option<ThreadId>
         ensures { result ≡ thread_for number (slice_get self.now.boxes.items place) }
     {

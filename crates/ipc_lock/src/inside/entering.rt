@@ -3,15 +3,15 @@ ghost use Rattle.std.specs.Prelude.{◌≡◌, ◌+◌, ◌*◌, ◌≤◌, ◌|
 ghost use Rattle.ipc_history.specs.Legal.{Legal};
 ghost use Rattle.ipc_core.specs.Obeying.{enter_answer};
 ghost use Rattle.ipc_core.specs.declared.command.Command.TheVariants as command;
-ghost use Rattle.ipc_lock.specs.Acting.{ActsOn, AnswersStep};
-ghost use Rattle.ipc_lock.specs.Noting.{NotesOn, has_begun_since};
+ghost use Rattle.ipc_seats.specs.Acting.{ActsOn, AnswersStep};
+ghost use Rattle.ipc_seats.specs.Noting.{NotesOn, has_begun_since};
 
 use super::Inside;
-use crate::seated::CallSeat;
+use ipc_base::Naming;
 use ipc_connection::PenPort;
 use ipc_core::EnterRefused;
 use ipc_history::Call;
-use ipc_log::Naming;
+use ipc_seats::CallSeat;
 use ipc_words::ThreadId;
 use std::sync::ledger::Ledger;
 

@@ -1,22 +1,20 @@
 //! Pens are laid down in their boxes, and taken out by their writers.
 ghost use Rattle.std.specs.Prelude.{◌≡◌, slice_get};
-ghost use Rattle.ipc_lock.specs.Boxes.{OnlyTakes};
-ghost use Rattle.ipc_lock.specs.Gifts.{gift_in, gifts, work_gifts};
-ghost use Rattle.ipc_lock.specs.Giving.{GivesOn};
-ghost use Rattle.ipc_lock.specs.Places.{LaysAt, LooksAgain, TakesBack, WorksFor};
+ghost use Rattle.ipc_seats.specs.Boxes.{OnlyTakes};
+ghost use Rattle.ipc_seats.specs.Gifts.{gift_in, gifts, work_gifts};
+ghost use Rattle.ipc_seats.specs.Giving.{GivesOn};
+ghost use Rattle.ipc_seats.specs.Places.{LaysAt, LooksAgain, TakesBack, WorksFor};
 
 use super::Inside;
-use crate::errands::Errands;
-use crate::gift_log::GiftLog;
-use crate::post_box::{Loaded, Work};
+use ipc_base::Naming;
 use ipc_connection::PenPort;
-use ipc_log::Naming;
+use ipc_seats::{Errands, GiftLog, Loaded, Work};
 use std::sync::ledger::Ledger;
 
 impl<C: Naming, T: Ledger, P: PenPort + Drop> Inside<C, T, P> {
     /// Lays pens down, each in its own box, and takes those out again for which something came
     /// meanwhile.
-    #[tactic(auto, using(crate::proofs::Moves::only_both))]
+    #[tactic(auto, using(ipc_seats::proofs::Moves::only_both))]
     pub(crate) fn take_back(&mut self, gift_log: &mut GiftLog<C>, errands: &mut Errands<C, P>)
         ensures takes { TakesBack self.old.locked.kernel self.new.locked.kernel
             self.old.boxes.items self.new.boxes.items errands.old errands.new }
@@ -31,7 +29,7 @@ impl<C: Naming, T: Ledger, P: PenPort + Drop> Inside<C, T, P> {
     }
 
     /// Lays a pen down in its own box, and takes it out again where something came meanwhile.
-    #[tactic(auto, using(crate::proofs::Moves::only_none, crate::proofs::Handed::gives_none))]
+    #[tactic(auto, using(ipc_seats::proofs::Moves::only_none, ipc_seats::proofs::Giving::gives_none))]
     fn look_again(&mut self, gift_log: &mut GiftLog<C>, pen: &mut Option<Loaded<C, P>>)
         ensures looks { LooksAgain self.old.locked.kernel self.new.locked.kernel
             self.old.boxes.items self.new.boxes.items pen.old pen.new }
@@ -49,7 +47,7 @@ impl<C: Naming, T: Ledger, P: PenPort + Drop> Inside<C, T, P> {
     }
 
     /// Lays a pen down in its own box. It comes out again where something came meanwhile.
-    #[tactic(auto, using(crate::proofs::Moves::only_none, crate::proofs::Moves::set_same, crate::proofs::Moves::there, crate::proofs::Moves::none_there, crate::proofs::Handed::gives_none))]
+    #[tactic(auto, using(ipc_seats::proofs::Moves::only_none, ipc_seats::proofs::Moves::set_same, ipc_seats::proofs::Moves::there, ipc_seats::proofs::Moves::none_there, ipc_seats::proofs::Giving::gives_none))]
     fn lay_down(&mut self, gift_log: &mut GiftLog<C>, pen: Loaded<C, P>) -> Option<Loaded<C, P>>
         ensures lays { LaysAt self.old.locked.kernel self.new.locked.kernel self.old.boxes.items
             self.new.boxes.items pen (slice_get self.old.boxes.items pen.place) result }
@@ -68,7 +66,7 @@ impl<C: Naming, T: Ledger, P: PenPort + Drop> Inside<C, T, P> {
 
     /// What the writer of the connection of a number does next, whose box is that of a place; None
     /// while there is nothing to do. It ends where that has no such box any more.
-    #[tactic(auto, using(crate::proofs::Moves::only_none, crate::proofs::Moves::set_same, crate::proofs::Moves::there, crate::proofs::Moves::none_there, crate::proofs::Handed::works_over, crate::proofs::Handed::works_there))]
+    #[tactic(auto, using(ipc_seats::proofs::Moves::only_none, ipc_seats::proofs::Moves::set_same, ipc_seats::proofs::Moves::there, ipc_seats::proofs::Moves::none_there, ipc_seats::proofs::Giving::works_over, ipc_seats::proofs::Giving::works_there))]
     pub(crate) fn work(
         &mut self,
         place: usize,

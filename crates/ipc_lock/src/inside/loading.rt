@@ -1,21 +1,20 @@
 //! The pens of those whom a step told something are taken out of their boxes.
 ghost use Rattle.std.specs.Prelude.{◌≡◌, ◌&&◌, Some, map, slice_get};
-ghost use Rattle.ipc_lock.specs.Alarms.{WakesBefore};
-ghost use Rattle.ipc_lock.specs.Boxes.{OnlyTakes};
+ghost use Rattle.ipc_seats.specs.Alarms.{WakesBefore};
+ghost use Rattle.ipc_seats.specs.Boxes.{OnlyTakes};
+ghost use Rattle.ipc_seats.specs.Places.{LoadsAt, LoadsOne, LoadsRow, OnlyLoads, owner_in, place_at, place_of, places_told};
 ghost use Rattle.ipc_lock.specs.Handing.{Hands};
-ghost use Rattle.ipc_lock.specs.Places.{LoadsAt, LoadsOne, LoadsRow, OnlyLoads, owner_in, place_at, place_of, places_told};
 
 use super::{After, Inside};
-use crate::errands::Errands;
-use crate::gift_log::GiftLog;
+use ipc_base::Naming;
 use ipc_connection::PenPort;
-use ipc_log::Naming;
+use ipc_seats::{Errands, GiftLog};
 use std::sync::ledger::Ledger;
 
 impl<C: Naming, T: Ledger, P: PenPort + Drop> Inside<C, T, P> {
     /// Who is to be woken after the last step. The pens of those whom it told something are taken
     /// out, first that of this box.
-    #[tactic(auto, using(crate::proofs::Moves::only_both, crate::proofs::Moves::loads_both))]
+    #[tactic(auto, using(ipc_seats::proofs::Moves::only_both, ipc_seats::proofs::Moves::loads_both))]
     pub(super) fn after(
         &mut self,
         own: Option<usize>,
@@ -63,7 +62,7 @@ impl<C: Naming, T: Ledger, P: PenPort + Drop> Inside<C, T, P> {
     }
 
     /// The pen of this box.
-    #[tactic(auto, using(crate::proofs::Moves::only_none, crate::proofs::Moves::loads_none, crate::proofs::Handed::hands_none))]
+    #[tactic(auto, using(ipc_seats::proofs::Moves::only_none, ipc_seats::proofs::Moves::loads_none, crate::proofs::Handed::hands_none))]
     fn load_own(
         &mut self,
         own: Option<usize>,
@@ -115,7 +114,7 @@ impl<C: Naming, T: Ledger, P: PenPort + Drop> Inside<C, T, P> {
     }
 
     /// The pen of one whose call the last step finished.
-    #[tactic(auto, using(crate::proofs::Moves::only_none, crate::proofs::Moves::loads_none, crate::proofs::Handed::hands_none))]
+    #[tactic(auto, using(ipc_seats::proofs::Moves::only_none, ipc_seats::proofs::Moves::loads_none, crate::proofs::Handed::hands_none))]
     fn load_for(&mut self, index: usize, gift_log: &mut GiftLog<C>, errands: &mut Errands<C, P>)
         ensures loads { LoadsOne (place_at self.old.owners.items
             (slice_get self.old.finished.items index)) self.old.locked.kernel
@@ -139,7 +138,7 @@ impl<C: Naming, T: Ledger, P: PenPort + Drop> Inside<C, T, P> {
 
     /// Takes a box's pen out, where it lies there and something is to be told. Where no more pens
     /// have room the writer is woken.
-    #[tactic(auto, using(crate::proofs::Moves::only_none, crate::proofs::Moves::set_same, crate::proofs::Moves::there, crate::proofs::Moves::none_there, crate::proofs::Handed::hands_none, crate::proofs::Handed::hands_still, crate::proofs::Handed::hands_pen))]
+    #[tactic(auto, using(ipc_seats::proofs::Moves::only_none, ipc_seats::proofs::Moves::set_same, ipc_seats::proofs::Moves::there, ipc_seats::proofs::Moves::none_there, crate::proofs::Handed::hands_none, crate::proofs::Handed::hands_still, crate::proofs::Handed::hands_pen))]
     pub(crate) fn load(
         &mut self,
         place: usize,

@@ -3,17 +3,17 @@ ghost use Rattle.std.specs.Prelude.{◌≡◌, ◌||◌, IfOk, false, length, na
 ghost use Rattle.ipc_history.specs.Legal.{Legal};
 ghost use Rattle.ipc_core.specs.declared.command.Command.TheVariants as command;
 ghost use Rattle.ipc_connection.specs.declared.asking.Request.TheVariants as request;
-ghost use Rattle.ipc_lock.specs.Acting.{ActsOn, AnswersStep, Asked, AsksOn};
-ghost use Rattle.ipc_lock.specs.Opening.{open_answer};
-ghost use Rattle.ipc_lock.specs.Noting.{NotesOn, has_begun_since};
-ghost use Rattle.ipc_lock.specs.Places.{new_seat, owned_by, told_in};
+ghost use Rattle.ipc_seats.specs.Acting.{ActsOn, AnswersStep, Asked, AsksOn};
+ghost use Rattle.ipc_seats.specs.Opening.{open_answer};
+ghost use Rattle.ipc_seats.specs.Noting.{NotesOn, has_begun_since};
+ghost use Rattle.ipc_seats.specs.Places.{new_seat, owned_by, told_in};
 
 use super::Inside;
-use crate::seated::{CallSeat, TakeSeat};
+use ipc_base::Naming;
 use ipc_connection::{PenPort, Told};
 use ipc_core::Refusal;
 use ipc_frame::WireVersion;
-use ipc_log::Naming;
+use ipc_seats::{CallSeat, TakeSeat};
 use ipc_words::ThreadId;
 use std::sync::ledger::Ledger;
 
@@ -62,7 +62,7 @@ impl<C: Naming, T: Ledger, P: PenPort + Drop> Inside<C, T, P> {
     /// As [`Inside::ask`], of an open. Each connection asks for one, and mostly for no other but
     /// calls: what it needs of the stack counts for each.
     #[inline(never)]
-    #[tactic(auto, unfolding(crate::specs::Acting::AnswersStep, crate::specs::Acting::Asked), using(crate::proofs::Opened::told_opened, crate::proofs::Opened::owned_opened))]
+    #[tactic(auto, unfolding(ipc_seats::specs::Acting::AnswersStep, ipc_seats::specs::Acting::Asked), using(ipc_seats::proofs::Opened::told_opened, ipc_seats::proofs::Opened::owned_opened))]
     pub(super) fn ask_open(
         &mut self,
         now: u64,

@@ -1,14 +1,13 @@
 //! Parts of a trace: memory lets go of all that need not be kept, and what is left begins one.
 ghost use Rattle.std.specs.Prelude.{◌≡◌, ◌<◌, ◌≤◌, ◌⊎◌, IfOk, IfSome, None, Ok, OnErr, OnOk, length};
 ghost use Rattle.ipc_history.specs.Legal.{Legal};
-ghost use Rattle.ipc_lock.specs.Parting.{IsBehind, IsPartOf, LetGoOfAll};
+ghost use Rattle.ipc_seats.specs.Parting.{IsBehind, IsPartOf, LetGoOfAll};
 
 use super::Inside;
-use crate::not_given::NotGiven;
-use crate::part::{Behind, HeldPart};
+use ipc_base::Naming;
 use ipc_compact::BaseRoom;
 use ipc_connection::PenPort;
-use ipc_log::Naming;
+use ipc_seats::{Behind, HeldPart, NotGiven};
 use std::alloc::AllocError;
 use std::sync::ledger::Ledger;
 

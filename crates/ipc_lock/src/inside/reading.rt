@@ -6,16 +6,15 @@ ghost use Rattle.ipc_core.specs.Outcomes.{made_by};
 ghost use Rattle.ipc_history.specs.Holding.{held_of, marked_to};
 ghost use Rattle.ipc_history.specs.Legal.{Legal};
 ghost use Rattle.ipc_history.specs.Threads.{is_live};
-ghost use Rattle.ipc_lock.specs.Groups.{IsGroupAt};
-ghost use Rattle.ipc_lock.specs.Seats.{TakesNothing};
+ghost use Rattle.ipc_seats.specs.Groups.{IsGroupAt};
+ghost use Rattle.ipc_seats.specs.Seats.{TakesNothing};
 ghost use Rattle.l4sh_state.specs.States.{IsStateOf};
 
 use super::Inside;
-use crate::not_given::NotGiven;
-use crate::seated::{TakeSeat, Taken};
+use ipc_base::Naming;
 use ipc_connection::PenPort;
 use ipc_history::Entry;
-use ipc_log::Naming;
+use ipc_seats::{NotGiven, TakeSeat, Taken};
 use l4sh_state::State;
 use std::sync::ledger::Ledger;
 

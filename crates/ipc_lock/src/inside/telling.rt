@@ -1,17 +1,15 @@
 //! Steps, each with what it tells. Outside these files nobody makes one without the other.
 ghost use Rattle.std.specs.Prelude.{◌≡◌};
-ghost use Rattle.ipc_lock.specs.Acting.{AnswersStep, Asked, GivesSeat, HandsBack};
+ghost use Rattle.ipc_seats.specs.Acting.{AnswersStep, Asked, GivesSeat, HandsBack};
+ghost use Rattle.ipc_seats.specs.Places.{OnlyLoads, new_seat, owned_by};
 ghost use Rattle.ipc_lock.specs.Handing.{Hands};
-ghost use Rattle.ipc_lock.specs.Places.{OnlyLoads, new_seat, owned_by};
 ghost use Rattle.ipc_lock.specs.Telling.{ActsAndTells, AsksAndTells};
 
 use super::{After, Inside};
-use crate::errands::Errands;
-use crate::gift_log::GiftLog;
-use crate::seated::{Answered, CallSeat};
+use ipc_base::Naming;
 use ipc_connection::{PenPort, Request, Told};
 use ipc_core::Command;
-use ipc_log::Naming;
+use ipc_seats::{Answered, CallSeat, Errands, GiftLog};
 use std::sync::ledger::Ledger;
 
 impl<C: Naming, T: Ledger, P: PenPort + Drop> Inside<C, T, P> {

@@ -1,12 +1,12 @@
 //! Who is to be woken, and who rests.
 ghost use Rattle.std.specs.Prelude.{◌≡◌, ◌||◌, ◌&&◌, false, is_some, not, true};
 ghost use Rattle.ipc_history.specs.Legal.{next_moving};
-ghost use Rattle.ipc_lock.specs.Alarms.{Rests, WakesBefore};
+ghost use Rattle.ipc_seats.specs.Alarms.{Rests, WakesBefore};
 
 use super::Inside;
-use crate::rest::Rest;
+use ipc_base::Naming;
 use ipc_connection::PenPort;
-use ipc_log::Naming;
+use ipc_seats::Rest;
 use std::sync::ledger::Ledger;
 
 impl<C: Naming, T: Ledger, P: PenPort + Drop> Inside<C, T, P> {

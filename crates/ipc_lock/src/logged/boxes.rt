@@ -1,24 +1,20 @@
 //! The boxes of connections: made, posted to, looked into, and given back.
 ghost use Rattle.std.specs.Prelude.{◌≡◌, ◌⊎◌, ℕ, List, IfErr, IfNone, IfOk, IfSome, None, slice_get, true};
-ghost use Rattle.ipc_lock.specs.Boxes.{new_box};
-ghost use Rattle.ipc_lock.specs.Gifts.{gifts, no_errands, number_in};
-ghost use Rattle.ipc_lock.specs.Giving.{Wrote, gifts_in, given_in};
+ghost use Rattle.ipc_seats.specs.Boxes.{new_box};
+ghost use Rattle.ipc_seats.specs.Gifts.{gifts, no_errands, number_in};
+ghost use Rattle.ipc_seats.specs.Giving.{Wrote, gifts_in, given_in};
+ghost use Rattle.ipc_seats.specs.Places.{ConnectsAt, FreesSome, LoadsAt, is_in, pen_in};
+ghost use Rattle.ipc_seats.specs.Owning.{Begins, Knows, Makes, Rolls};
+ghost use Rattle.ipc_seats.specs.declared.events.Event.TheVariants as event;
 ghost use Rattle.ipc_lock.specs.Logs.{given_to};
-ghost use Rattle.ipc_lock.specs.Places.{ConnectsAt, FreesSome, LoadsAt, is_in, pen_in};
-ghost use Rattle.ipc_lock.specs.Owning.{Begins, Knows, Makes, Rolls};
 ghost use Rattle.ipc_lock.specs.Turns.{Turned};
-ghost use Rattle.ipc_lock.specs.declared.events.Event.TheVariants as event;
 ghost use Rattle.ipc_connection.specs.Pens.{BeginsEmpty, new_page};
 
 use super::Logged;
 use super::gifts::{gifts, number_at};
-use crate::errands::Errands;
-use crate::events::Event;
-use crate::gift_log::GiftLog;
-use crate::post_box::Loaded;
-use crate::roll::Roll;
+use ipc_base::{Log, Naming, Own};
 use ipc_connection::{PenPort, Told};
-use ipc_log::{Log, Naming, Own};
+use ipc_seats::{Errands, Event, GiftLog, Loaded, Roll};
 use std::alloc::AllocError;
 use std::sync::ledger::Ledger;
 

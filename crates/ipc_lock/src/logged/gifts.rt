@@ -1,18 +1,14 @@
 //! What an event is made of, where proofs alone know it.
 ghost use Rattle.std.specs.Prelude.{◌≡◌, Bool, List, ℕ};
 ghost use Rattle.ipc_history.specs.Outcomes.{OutcomeParts};
-ghost use Rattle.ipc_lock.specs.Gifts.{gifts};
-ghost use Rattle.ipc_lock.specs.declared.events.Gift.{Gift};
+ghost use Rattle.ipc_seats.specs.Gifts.{gifts};
+ghost use Rattle.ipc_seats.specs.declared.events.Gift.{Gift};
 
-use crate::errands::Errands;
-use crate::events::Gift;
 use crate::inside::Inside;
-use crate::post_box::Work;
-use crate::seated::Taken;
-use ipc_base::Past;
+use ipc_base::{Naming, Past};
 use ipc_connection::PenPort;
 use ipc_history::Outcome;
-use ipc_log::Naming;
+use ipc_seats::{Errands, Gift, Taken, Work};
 use std::sync::ledger::Ledger;
 
 /// What the pens on errands were given last.

@@ -1,17 +1,15 @@
 //! Pens are laid down in their boxes, and taken out by their writers.
 ghost use Rattle.std.specs.Prelude.{slice_get};
-ghost use Rattle.ipc_lock.specs.Gifts.{gifts, work_gifts};
-ghost use Rattle.ipc_lock.specs.Places.{TakesBack, WorksFor};
+ghost use Rattle.ipc_seats.specs.Gifts.{gifts, work_gifts};
+ghost use Rattle.ipc_seats.specs.Places.{TakesBack, WorksFor};
+ghost use Rattle.ipc_seats.specs.declared.events.Event.TheVariants as event;
 ghost use Rattle.ipc_lock.specs.Turns.{Turned};
-ghost use Rattle.ipc_lock.specs.declared.events.Event.TheVariants as event;
 
 use super::Logged;
 use super::gifts::{gifts, gifts_of_work, idle_at};
-use crate::errands::Errands;
-use crate::events::Event;
-use crate::post_box::Work;
+use ipc_base::{Log, Naming};
 use ipc_connection::PenPort;
-use ipc_log::{Log, Naming};
+use ipc_seats::{Errands, Event, Work};
 use std::sync::ledger::Ledger;
 
 impl<C: Naming, T: Ledger, P: PenPort + Drop> Logged<C, T, P> {

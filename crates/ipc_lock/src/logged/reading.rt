@@ -3,20 +3,17 @@ ghost use Rattle.std.specs.Prelude.{◌≡◌, ◌+◌, ◌-◌, ◌<◌, ◌≤
 ghost use Rattle.ipc_core.specs.Effects.{Gives};
 ghost use Rattle.ipc_core.specs.Outcomes.{made_by};
 ghost use Rattle.ipc_history.specs.Legal.{Legal};
-ghost use Rattle.ipc_lock.specs.Gifts.{outcomes_in};
-ghost use Rattle.ipc_lock.specs.Parting.{IsBehind, IsPartOf, LetGoOfAll};
-ghost use Rattle.ipc_lock.specs.Seats.{TakesNothing};
+ghost use Rattle.ipc_seats.specs.Gifts.{outcomes_in};
+ghost use Rattle.ipc_seats.specs.Parting.{IsBehind, IsPartOf, LetGoOfAll};
+ghost use Rattle.ipc_seats.specs.Seats.{TakesNothing};
+ghost use Rattle.ipc_seats.specs.declared.events.Event.TheVariants as event;
 ghost use Rattle.ipc_lock.specs.Turns.{Turned};
-ghost use Rattle.ipc_lock.specs.declared.events.Event.TheVariants as event;
 
 use super::Logged;
 use super::gifts::outcomes;
-use crate::events::Event;
-use crate::not_given::NotGiven;
-use crate::part::{Behind, HeldPart};
-use crate::seated::{TakeSeat, Taken};
+use ipc_base::{Log, Naming};
 use ipc_connection::PenPort;
-use ipc_log::{Log, Naming};
+use ipc_seats::{Behind, Event, HeldPart, NotGiven, TakeSeat, Taken};
 use std::alloc::AllocError;
 use std::sync::ledger::Ledger;
 

@@ -2,30 +2,27 @@
 ghost use Rattle.std.specs.Prelude.{◌≡◌, ◌∷◌, ◌&&◌, [], IfNone, None, false, is_some, slice_get, true};
 ghost use Rattle.ipc_core.specs.declared.command.Command.TheVariants as step;
 ghost use Rattle.ipc_history.specs.Legal.{next_moving};
+ghost use Rattle.ipc_seats.specs.Acting.{AnswersStep, Asked, GivesSeat, HandsBack};
+ghost use Rattle.ipc_seats.specs.Boxes.{changed_at};
+ghost use Rattle.ipc_seats.specs.Gifts.{gifts, no_errands, number_in};
+ghost use Rattle.ipc_seats.specs.Owning.{Makes};
+ghost use Rattle.ipc_seats.specs.Places.{EndsAt, OnlyLoads, is_in, shut_for, thread_for};
+ghost use Rattle.ipc_seats.specs.declared.events.Event.TheVariants as event;
 ghost use Rattle.ipc_lock.specs.Above.{is_moved};
-ghost use Rattle.ipc_lock.specs.Acting.{AnswersStep, Asked, GivesSeat, HandsBack};
-ghost use Rattle.ipc_lock.specs.Boxes.{changed_at};
-ghost use Rattle.ipc_lock.specs.Gifts.{gifts, no_errands, number_in};
-ghost use Rattle.ipc_lock.specs.Owning.{Makes};
-ghost use Rattle.ipc_lock.specs.Places.{EndsAt, OnlyLoads, is_in, shut_for, thread_for};
 ghost use Rattle.ipc_lock.specs.Telling.{ActsAndTells, AsksAndTells};
 ghost use Rattle.ipc_lock.specs.Turns.{Turned};
-ghost use Rattle.ipc_lock.specs.declared.events.Event.TheVariants as event;
 
 use super::Logged;
 use super::gifts::{gifts, number_at};
-use crate::errands::Errands;
-use crate::events::Event;
 use crate::inside::After;
-use crate::seated::{Answered, CallSeat};
-use ipc_base::Past;
+use ipc_base::{Log, Naming, Own, Past};
 use ipc_connection::{PenPort, Request, Told};
 use ipc_core::{Advance, Answer, Command};
-use ipc_log::{Log, Naming, Own};
+use ipc_seats::{Answered, CallSeat, Errands, Event};
 use std::sync::ledger::Ledger;
 
 /// Whether a step copied a block.
-fn has_moved<C: Ledger, T: Ledger>(answered: &Answered<C, T>) -> bool
+pub(super) fn has_moved<C: Ledger, T: Ledger>(answered: &Answered<C, T>) -> bool
     ensures { result ≡ is_moved answered.now.answer }
 {
     matches!(answered.answer(), Answer::Advanced(Advance::Moved))

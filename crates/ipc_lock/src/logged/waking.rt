@@ -1,12 +1,12 @@
 //! Who rests, and whose work is over: nothing is done to kernel or boxes.
 ghost use Rattle.std.specs.Prelude.{◌≡◌, true};
-ghost use Rattle.ipc_lock.specs.Alarms.{Rests};
+ghost use Rattle.ipc_seats.specs.Alarms.{Rests};
 ghost use Rattle.ipc_lock.specs.Turns.{Runs};
 
 use super::Logged;
-use crate::rest::Rest;
+use ipc_base::Naming;
 use ipc_connection::PenPort;
-use ipc_log::Naming;
+use ipc_seats::Rest;
 use std::sync::ledger::Ledger;
 
 impl<C: Naming, T: Ledger, P: PenPort + Drop> Logged<C, T, P> {

@@ -1,25 +1,21 @@
 //! Connections: their boxes, what their readers ask for, and what their writers write.
 ghost use Rattle.std.specs.Prelude.{◌≡◌, None, IfOk, IfSome, IfNone, IfErr, false, true, slice_get};
 ghost use Rattle.std.specs.Sync.Mutex.{mutex_guard_value};
+ghost use Rattle.ipc_seats.specs.Acting.{Asked};
+ghost use Rattle.ipc_seats.specs.Places.{is_empty_in, is_in, is_out, is_shut_in};
 ghost use Rattle.ipc_lock.specs.Above.{AsksOrRefuses, ConnectsSome, EndsSome, EndsWorkSome, FindsNone, GoneSome, HandsOut, HangsUpSome, LaysSome, PostsOrDrops, TakesOutSome};
-ghost use Rattle.ipc_lock.specs.Acting.{Asked};
-ghost use Rattle.ipc_lock.specs.Places.{is_empty_in, is_in, is_out, is_shut_in};
 ghost use Rattle.ipc_lock.specs.Rounds.{Carries};
 ghost use Rattle.ipc_connection.specs.Pens.{BeginsEmpty};
-ghost use Rattle.ipc_log.specs.Rules.{AreOne};
+ghost use Rattle.ipc_base.specs.LogRules.{AreOne};
 
 use super::SharedKernel;
 use crate::ends::{PostEnd, TakeEnd};
-use crate::entered::Entered;
-use crate::errands::Errands;
-use crate::events::Event;
 use crate::inside::After;
 use crate::logged::Logged;
-use crate::post_box::{Loaded, Work};
-use crate::roll::Roll;
+use ipc_base::{Naming, Own};
 use ipc_connection::{PenPort, Request, Told};
 use ipc_core::Refusal;
-use ipc_log::{Naming, Own};
+use ipc_seats::{Entered, Errands, Event, Loaded, Roll, Work};
 use std::mem::replace;
 use std::sync::ledger::Ledger;
 use std::sync::{Arc, Condvar, MutexGuard, Wait};
@@ -85,7 +81,7 @@ impl<C: Naming, T: Ledger, P: PenPort + Drop> SharedKernel<C, T, P> {
     /// `Refused`, and the end is then as before: of an open K1, K2, K3, K5, K4; of a call K6, K7,
     /// K8, K5, K4; of an ExchangeRegisters K6, K7, K5, K4. K6 also where the box was shut, and
     /// where this is not the end's own thread.
-    #[tactic(auto, unfolding(crate::specs::Acting::Asked), using(crate::proofs::Steps::still, crate::proofs::Above::asks_none))]
+    #[tactic(auto, unfolding(ipc_seats::specs::Acting::Asked), using(ipc_seats::proofs::Steps::still, crate::proofs::Above::asks_none))]
     pub fn ask<R: Wait>(
         &self,
         rt: &R,

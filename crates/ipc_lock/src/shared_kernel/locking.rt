@@ -2,8 +2,8 @@
 
 use super::SharedKernel;
 use crate::logged::Logged;
+use ipc_base::Naming;
 use ipc_connection::PenPort;
-use ipc_log::Naming;
 use std::hint::spin_loop;
 use std::sync::ledger::Ledger;
 use std::sync::{MutexGuard, Wait};

@@ -3,10 +3,9 @@ ghost use Rattle.std.specs.Prelude.{IfOk, IfSome};
 ghost use Rattle.ipc_lock.specs.Above.{EndsAPart, PartOfSome};
 
 use super::SharedKernel;
-use crate::not_given::NotGiven;
-use crate::part::{Behind, HeldPart};
+use ipc_base::Naming;
 use ipc_connection::PenPort;
-use ipc_log::Naming;
+use ipc_seats::{Behind, HeldPart, NotGiven};
 use std::alloc::AllocError;
 use std::sync::Wait;
 use std::sync::ledger::Ledger;

@@ -8,11 +8,11 @@ ghost use Rattle.l4sh_state.specs.States.{IsStateOf};
 
 use super::SharedKernel;
 use crate::logged::MarkBook;
-use crate::not_given::NotGiven;
+use ipc_base::Naming;
 use ipc_connection::PenPort;
 use ipc_history::Entry;
 use ipc_lines::entry_line;
-use ipc_log::Naming;
+use ipc_seats::NotGiven;
 use l4sh_state::State;
 use std::sync::Wait;
 use std::sync::ledger::Ledger;

@@ -3,20 +3,17 @@ ghost use Rattle.std.specs.Prelude.{◌≡◌, ◌∷◌, ◌++◌, [], IfSome, 
 ghost use Rattle.std.specs.List.{list_any};
 ghost use Rattle.std.specs.Sync.Mutex.{mutex_guard_value};
 ghost use Rattle.ipc_core.specs.declared.command.Command.TheVariants as step;
-ghost use Rattle.ipc_lock.specs.Above.{ActsSome, EndsAll, MovesAll, MovesSome, OverSome, RestsOrEnds, WorksSome};
-ghost use Rattle.ipc_lock.specs.Alarms.{Rests};
-ghost use Rattle.ipc_lock.specs.Boxes.{has_connection};
+ghost use Rattle.ipc_seats.specs.Alarms.{Rests};
+ghost use Rattle.ipc_seats.specs.Boxes.{has_connection};
+ghost use Rattle.ipc_lock.specs.Above.{ActsSome, AdvancesSome, EndsAll, MovesAll, MovesSome, OverSome, RestsOrEnds, WorksSome};
 ghost use Rattle.ipc_lock.specs.Turns.{Runs};
 
 use super::SharedKernel;
-use crate::errands::Errands;
 use crate::inside::After;
-use crate::logged::{Logged, TickBook};
-use crate::rest::Rest;
-use crate::roll::Roll;
-use crate::seated::Answered;
+use crate::logged::{Logged, MoveBook, TickBook};
+use ipc_base::Naming;
 use ipc_connection::PenPort;
-use ipc_log::Naming;
+use ipc_seats::{Answered, Errands, Rest, Roll};
 use ipc_words::limits::{BLOCK_BYTES, MAX_STRING_BYTES};
 use std::hint::spin_loop;
 use std::rt::Clock;
@@ -82,6 +79,24 @@ impl<C: Naming, T: Ledger, P: PenPort + Drop> SharedKernel<C, T, P> {
         self.settle(rt, after, &mut errands);
         drop(answered);
         goes_on
+    }
+
+    /// Takes the lock, moves a part of a transfer, if one is begun, and writes what the step told
+    /// to whom it concerns. False where none was moved. `now` is the moment, in microseconds;
+    /// whether a part was moved is noted in a mover's book.
+    #[tactic(auto, using(crate::proofs::Above::advances_some))]
+    pub fn advance<R: Wait>(&self, rt: &R, now: u64, book: &mut MoveBook) -> bool
+        ensures advances { AdvancesSome C P now result }
+        ensures noted { book.new ≡ book.old ++ result ∷ [] }
+    {
+        let mut errands = Errands::none();
+        let mut inside = self.inside(rt);
+        let (answered, has_moved, after) = inside.advance(&self.log, now, book, &mut errands);
+        drop(inside);
+        self.wake_mover(&after);
+        self.settle(rt, after, &mut errands);
+        drop(answered);
+        has_moved
     }
 
     /// Takes the lock, tells the kernel the moment, in microseconds, which is noted in a ticker's

@@ -1,6 +1,6 @@
 use Rattle.std.proofs.Common.{ap, subst}
 use Rattle.std.specs.Vec.{vec_items}
-use Rattle.ipc_lock.specs.Places.{OnlyLoads}
+use Rattle.ipc_seats.specs.Places.{OnlyLoads}
 use Rattle.ipc_lock.proofs.Telling.{acts_and_tells}
 use Rattle.ipc_lock.proofs.inside.Inside.act_and_tell.Goals as goal
 

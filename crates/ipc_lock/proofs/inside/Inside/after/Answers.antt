@@ -1,6 +1,6 @@
 use Rattle.std.proofs.Common.{ap, ◌∙◌}
 use Rattle.std.specs.Vec.{vec_items}
-use Rattle.ipc_lock.proofs.Rows.{row_from}
+use Rattle.ipc_seats.proofs.Rows.{row_from}
 use Rattle.ipc_lock.proofs.inside.Inside.after.Goals as goal
 
 pub returns-clause-loads : goal.returns-clause-loads

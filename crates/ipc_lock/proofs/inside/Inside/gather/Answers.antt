@@ -1,8 +1,8 @@
 use Rattle.std.proofs.Common.{ap}
 use Rattle.std.specs.Vec.{vec_items}
+use Rattle.ipc_seats.proofs.Moves.{loads_both, only_both}
+use Rattle.ipc_seats.proofs.Rows.{row_first}
 use Rattle.ipc_lock.proofs.Handed.{hands_both}
-use Rattle.ipc_lock.proofs.Moves.{loads_both, only_both}
-use Rattle.ipc_lock.proofs.Rows.{row_first}
 use Rattle.ipc_lock.proofs.inside.Inside.gather.Goals as goal
 
 pub returns-clause-loads : goal.returns-clause-loads

@@ -1,10 +1,10 @@
 use Rattle.std.proofs.Common.{refl, ap, ◌∙◌, subst, arith}
 use Rattle.std.specs.Prelude.{slice_get}
 use Rattle.std.specs.Vec.{vec_items}
-use Rattle.ipc_lock.specs.Places.{LoadsOne, place_at}
+use Rattle.ipc_seats.specs.Places.{LoadsOne, place_at}
+use Rattle.ipc_seats.proofs.Moves.{loads_both, loads_none, only_both, only_none}
+use Rattle.ipc_seats.proofs.Rows.{row_more, row_none}
 use Rattle.ipc_lock.proofs.Handed.{hands_both, hands_none}
-use Rattle.ipc_lock.proofs.Moves.{loads_both, loads_none, only_both, only_none}
-use Rattle.ipc_lock.proofs.Rows.{row_more, row_none}
 use Rattle.ipc_lock.proofs.inside.Inside.load_finished.Goals as goal
 
 pub finished-init : goal.finished-init

@@ -1,8 +1,8 @@
 -- No step is made: outcomes are taken, and what is told goes out of boxes.
 use Rattle.std.proofs.Common.{◌≡◌, map, take}
-use Rattle.ipc_lock.specs.Boxes.{OnlyTakes}
+use Rattle.ipc_seats.specs.Boxes.{OnlyTakes}
+use Rattle.ipc_seats.specs.Places.{LoadsRow, OnlyLoads, place_of}
 use Rattle.ipc_lock.specs.Handing.{Hands}
-use Rattle.ipc_lock.specs.Places.{LoadsRow, OnlyLoads, place_of}
 use Rattle.ipc_lock.proofs.inside.Inside.load_finished.Given as goal
 
 abbrev pub invariant-finished : goal.invariant-finished

@@ -1,4 +1,4 @@
-use Rattle.ipc_lock.proofs.Moves.{loads_stay}
+use Rattle.ipc_seats.proofs.Moves.{loads_stay}
 use Rattle.ipc_lock.proofs.inside.Inside.load_more.Goals as goal
 
 pub returns-clause-stay : goal.returns-clause-stay

@@ -1,5 +1,5 @@
-use Rattle.ipc_lock.proofs.Handed.{gives_both}
-use Rattle.ipc_lock.proofs.Moves.{only_both}
+use Rattle.ipc_seats.proofs.Giving.{gives_both}
+use Rattle.ipc_seats.proofs.Moves.{only_both}
 use Rattle.ipc_lock.proofs.inside.Inside.take_back.Goals as goal
 
 pub returns-clause-takes : goal.returns-clause-takes

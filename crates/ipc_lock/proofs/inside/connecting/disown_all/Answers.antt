@@ -1,5 +1,5 @@
-use Rattle.ipc_lock.proofs.Rows.{kept_more}
-use Rattle.ipc_lock.specs.Places.{disowned}
+use Rattle.ipc_seats.proofs.Rows.{kept_more}
+use Rattle.ipc_seats.specs.Places.{disowned}
 use Rattle.ipc_lock.proofs.inside.connecting.disown_all.Goals as goal
 
 pub owners-preserved : goal.owners-preserved

@@ -1,6 +1,6 @@
 -- The owners so far are those that are left.
 use Rattle.std.proofs.Common.{◌≡◌, ◌++◌, map, take, drop}
-use Rattle.ipc_lock.specs.Places.{disowned}
+use Rattle.ipc_seats.specs.Places.{disowned}
 use Rattle.ipc_lock.proofs.inside.connecting.disown_all.Given as goal
 
 abbrev pub invariant-owners : goal.invariant-owners

@@ -1,6 +1,6 @@
 -- The number of the connection of the box.
 use Rattle.std.specs.Prelude.{slice_get}
-use Rattle.ipc_lock.specs.Gifts.{number_in}
+use Rattle.ipc_seats.specs.Gifts.{number_in}
 use Rattle.ipc_lock.proofs.logged.Logged.ask_and_tell.Given as goal
 
 abbrev pub ghost-number_at : goal.ghost-number_at

@@ -1,6 +1,6 @@
 use Rattle.std.proofs.Common.{ap, refl}
 use Rattle.std.specs.Vec.{vec_items}
-use Rattle.ipc_lock.proofs.Handed.{gives_none}
+use Rattle.ipc_seats.proofs.Giving.{gives_none}
 use Rattle.ipc_lock.proofs.Together.{tells_on}
 use Rattle.ipc_lock.proofs.logged.Logged.mark_traced.Goals as goal
 

@@ -1,5 +1,5 @@
 use Rattle.std.proofs.Common.{refl}
-use Rattle.ipc_lock.proofs.Handed.{gives_none}
+use Rattle.ipc_seats.proofs.Giving.{gives_none}
 use Rattle.ipc_lock.proofs.Together.{tells_on}
 use Rattle.ipc_lock.proofs.Turning.{parted_or}
 use Rattle.ipc_lock.proofs.logged.Logged.part_if_marked.Goals as goal

@@ -1,5 +1,6 @@
 use Rattle.std.proofs.Common.{ap, refl}
-use Rattle.ipc_lock.proofs.Handed.{gives_same, no_pen_there, wrote_if}
+use Rattle.ipc_seats.proofs.Giving.{gives_same}
+use Rattle.ipc_lock.proofs.Handed.{no_pen_there, wrote_if}
 use Rattle.ipc_lock.proofs.Together.{tells_on}
 use Rattle.ipc_lock.proofs.logged.Logged.release.Goals as goal
 

@@ -1,5 +1,5 @@
 -- What was taken.
-use Rattle.ipc_lock.specs.Gifts.{outcomes_in}
+use Rattle.ipc_seats.specs.Gifts.{outcomes_in}
 use Rattle.ipc_lock.proofs.logged.Logged.take_for.Given as goal
 
 abbrev pub ghost-outcomes : goal.ghost-outcomes

@@ -1,6 +1,6 @@
 use Rattle.std.proofs.Common.{ap, refl}
 use Rattle.std.specs.Vec.{vec_items}
-use Rattle.ipc_lock.proofs.Handed.{gives_as}
+use Rattle.ipc_seats.proofs.Giving.{gives_as}
 use Rattle.ipc_lock.proofs.Together.{tells_on}
 use Rattle.ipc_lock.proofs.Turning.{work_gives}
 use Rattle.ipc_lock.proofs.logged.Logged.work.Goals as goal

@@ -1,6 +1,6 @@
 -- Whether the pen lay there at its end, and what it was given.
 use Rattle.std.specs.Prelude.{slice_get}
-use Rattle.ipc_lock.specs.Gifts.{gifts_of_work, idle_in}
+use Rattle.ipc_seats.specs.Gifts.{gifts_of_work, idle_in}
 use Rattle.ipc_lock.proofs.logged.Logged.work.Given as goal
 
 abbrev pub ghost-idle_at : goal.ghost-idle_at

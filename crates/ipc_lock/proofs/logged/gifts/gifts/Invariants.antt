@@ -1,4 +1,4 @@
-use Rattle.ipc_lock.specs.Gifts as words
+use Rattle.ipc_seats.specs.Gifts as words
 use Rattle.ipc_lock.proofs.logged.gifts.gifts.Given as goal
 
 abbrev pub ghost-told : goal.ghost-told

@@ -1,7 +1,7 @@
 use Rattle.std.proofs.Common.{◌≡◌, ℕ, false, subst}
 use Rattle.std.specs.Prelude.{slice_get}
 use Rattle.std.specs.Sync.Mutex.{mutex_guard_value}
-use Rattle.ipc_lock.specs.Places.{is_out}
+use Rattle.ipc_seats.specs.Places.{is_out}
 use Rattle.ipc_lock.proofs.Above.{hands_if, none_if}
 use Rattle.ipc_lock.proofs.shared_kernel.SharedKernel.release.Goals as goal
 

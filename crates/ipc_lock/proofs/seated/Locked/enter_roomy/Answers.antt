@@ -1,9 +1,0 @@
-use Rattle.ipc_lock.proofs.seated.Locked.enter_roomy.Goals as goal
-
-pub returns-clause-obeys : goal.returns-clause-obeys
-returns-clause-obeys g c = record {
-  roomy = c.compact_marked.new.self.kernel;
-  done = c.compact_marked.result;
-  compacts = c.compact_marked.ensures;
-  obeys = c.enter_seated.ensures.obeys;
-}

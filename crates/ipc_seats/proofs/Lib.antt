@@ -1,0 +1,12 @@
+pub mod Counts
+pub mod Numbered
+pub mod Steps
+pub mod Taking
+pub mod Moves
+pub mod Again
+pub mod Near
+pub mod Rows
+pub mod Ordering
+pub mod Continuing
+pub mod Giving
+pub mod Opened

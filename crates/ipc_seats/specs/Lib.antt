@@ -1,0 +1,16 @@
+pub mod Groups
+pub mod Opens
+pub mod Seats
+pub mod Acting
+pub mod Numbering
+pub mod Boxes
+pub mod Places
+pub mod Alarms
+pub mod Upkeeping
+pub mod Noting
+pub mod Parting
+pub mod Gifts
+pub mod Making
+pub mod Owning
+pub mod Giving
+pub mod Opening

@@ -117,7 +117,7 @@ def shell(programs):
 def roles(programs):
     told = subprocess.run([f"{programs}/l4x", "--help"], capture_output=True, text=True, stdin=subprocess.DEVNULL, check=True)
     usage = told.stdout.strip()
-    return [".SH SYNOPSIS", ".B l4x", "DIR ROLE", ".SH DESCRIPTION",
+    return [*synopsis(["l4x DIR ROLE", "l4x --version"]), ".SH DESCRIPTION",
             plain("l4x is a thread of the l4d that listens in DIR. What it is says its second word. `l4x DIR names` is a name server: servers register a "
                   "name there, and clients look it up. The unit l4d-names.service runs it."), ".PP", ".EX",
             *[plain(line, is_code=True) for line in usage.splitlines()], ".EE", *sections(OF_L4X),

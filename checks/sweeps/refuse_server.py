@@ -7,8 +7,8 @@ The clients are five pairs. Each says HELLO, and sends words, a reply, strings, 
 each byte that comes is looked at. With one growth refused the server may
 - end with `l4d: no memory` or `l4d: no worker can be started` and status 1: what each client was told before is as usual;
 - serve on, and disturb one pair at most: REFUSED K4, where the same frame is then served when it comes again; FAULT F14 and the
-  end; or the end before any answer, of a connection that gets no post box or no worker. The partner is then told that it is gone,
-  and all else is as usual.
+  end; or the end before any answer, of a connection that gets no post box or no worker, which may be told as l4d's lack. The partner
+  is then told that it is gone, and all else is as usual.
 With --trace it may tell `l4d: trace TR5` besides. With --every N each N-th growth is refused.
 
 Of calls on sockets one is interrupted, 999 in a row are, or one answers ECONNRESET or EMFILE. An interrupted call changes
@@ -20,6 +20,7 @@ is `N runs, M failed`.
 import collections
 import errno
 import os
+import re
 import select
 import socket
 import subprocess
@@ -43,6 +44,8 @@ REFUSED_K4, FAULT_F14 = refused(K_NO_MEMORY), fault("F", F_NO_MEMORY)
 GONE = (0x4, 0x5, 0xE, 0xF)
 SHORT, LONG = bytes(n % 251 for n in range(300)), bytes(n % 241 for n in range(70_000))
 NOBODY = 77 << 32 | 1
+# What l4d says of a connection that it closes, since something is lacking.
+LACK = re.compile(r"l4d: a connection of space 1 is closed, since there is no (memory|worker) for it[;:]")
 
 
 def kind_of(whole):
@@ -303,12 +306,15 @@ def kind_of_memory(run):
     if run.status == 1 and is_ended:
         return "ended" if "listening 1\nclosed\n".startswith(run.out) and set(run.kinds) <= {"cut", "unserved"} else None
     torn = lines == ["l4d: trace TR5"]
-    lonely = len(lines) == 1 and lines[0].startswith("l4d: no worker for a connection can be started")
-    if run.status != (1 if torn else 0) or run.out != "listening 1\nclosed\n" or lines and not torn and not lonely:
+    lack = LACK.match(lines[0]) if len(lines) == 1 else None
+    if run.status != (1 if torn else 0) or run.out != "listening 1\nclosed\n" or lines and not torn and not lack:
         return None
     if sum(run.kinds.values()) > 1 or not set(run.kinds) <= {"refused", "faulted", "unserved"}:
         return None
-    return "no trace" if torn else "no worker" if lonely else next(iter(run.kinds), "usual")
+    # what is told of a lack is so of the connection that was closed
+    if lack and set(run.kinds) != {"unserved"}:
+        return None
+    return "no trace" if torn else f"no {lack[1]}" if lack else next(iter(run.kinds), "usual")
 
 
 def refuse_memory(l4d, room, every):
@@ -349,6 +355,9 @@ def fail_devices(l4d, room, every):
         ran = Run(l4d, (), {**env, "COUNT_TO": f"{room}/count"})
         yield f"no {kind} fails", "usual" if ran.is_usual() else None, ran.said()
         count = count_in(f"{room}/count")
+        if kind == "accept":
+            # the last one asks a path that is closed already whether anybody waits there
+            count -= 1
         passing = [(errno.EINTR, 1), (errno.EINTR, 999)]
         others = [(errno.ECONNABORTED, 1), (errno.EMFILE, 1)] if kind == "accept" else [(errno.ECONNRESET, 1), (errno.EMFILE, 1)]
         for number, times in passing + others:

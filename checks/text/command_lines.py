@@ -1,5 +1,5 @@
 #!/usr/bin/env python3
-"""checks/text/command_lines.py L4D L4SH: what words ask the two programs for, and what is told of each mistake.
+"""checks/text/command_lines.py L4D L4SH L4X: what words ask the programs for, and what is told of each mistake.
 
 The rows stand in checks/text/command_lines.txt. A row begins with `$` and the words, as a shell reads them. Behind it stand
 
@@ -15,7 +15,7 @@ traces, each another one. A row of l4d with lines
 
 is of a server that is served until SIGTERM comes. They say on which paths it listens, and their permissions; it ends well.
 
-Then `-V` tells what `--version` tells, and `l4sh help` prints what `l4sh --help` tells. A start without standard input and output lets no file take their
+Then `-V` tells what `--version` tells, which is the same of all programs but for their names, and `l4sh help` prints what `l4sh --help` tells. A start without standard input and output lets no file take their
 place, and a word that is not UTF-8 is told. Its last line is `N rows, M failed`; the status is 0 where M is 0.
 """
 
@@ -126,9 +126,9 @@ def odd_starts(programs):
 
 
 def main(words):
-    if len(words) != 2:
+    if len(words) != 3:
         sys.exit(__doc__)
-    programs = dict(zip(("l4d", "l4sh"), map(os.path.abspath, words)))
+    programs = dict(zip(("l4d", "l4sh", "l4x"), map(os.path.abspath, words)))
     rows = rows_of(f"{HERE}/command_lines.txt")
     failed = 0
     with tempfile.TemporaryDirectory() as room:
@@ -143,11 +143,13 @@ def main(words):
             if not row.is_met(there):
                 failed += 1
                 print(f"{shlex.join(row.words)}: it ends so: {there}"[:1500])
-        alike = [("l4d", ["-V"], ["--version"]), ("l4sh", ["-V"], ["--version"])]
-        for name, short, long in alike:
-            if ran([programs[name], *short]) != ran([programs[name], *long]):
-                failed += 1
-                print(f"{name} {short[0]} is not as {long[0]}")
+        for name, program in programs.items():
+            status, printed, told = ran([programs["l4sh"], "--version"])
+            wanted = (status, [printed[0].replace("l4sh", name, 1), *printed[1:]], told)
+            for word in ("-V", "--version"):
+                if ran([program, word]) != wanted:
+                    failed += 1
+                    print(f"{name} {word} is not as l4sh --version")
         help_as_a_command, help_as_an_option = ran([programs["l4sh"], "help"]), ran([programs["l4sh"], "--help"])
         if (help_as_a_command[0], help_as_a_command[1], help_as_a_command[2]) != (0, help_as_an_option[2], []):
             failed += 1
@@ -156,7 +158,7 @@ def main(words):
             failed += 1
             print(wrong[:1500])
         os.chdir(HERE)
-    print(f"{len(rows) + len(alike) + 6} rows, {failed} failed")
+    print(f"{len(rows) + 2 * len(programs) + 6} rows, {failed} failed")
     return 1 if failed or not rows else 0
 
 

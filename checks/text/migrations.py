@@ -157,7 +157,7 @@ def traces(l4sh):
 
 
 def main():
-    l4sh = sys.argv[1] if len(sys.argv) > 1 else f"{ROOT}/l4sh"
+    l4sh = os.path.abspath(sys.argv[1]) if len(sys.argv) > 1 else f"{ROOT}/l4sh"
     looks = [(name, faults_of_trace, trace) for name, trace in traces(l4sh)]
     found = sum(name.startswith("scripts/") for name, _, _ in looks)
     looks += [(repr(trace), faults_of_version, trace) for trace in OTHER_VERSIONS]

@@ -44,7 +44,7 @@ class Book:
 
 
 def shell(command, folder, given=""):
-    return subprocess.run(["bash", "-c", command], input=given, capture_output=True, text=True, cwd=folder, timeout=60, check=False)
+    return subprocess.run(["sh", "-c", command], input=given, capture_output=True, text=True, cwd=folder, timeout=60, check=False)
 
 
 def blocks(book, page, folder):

@@ -98,6 +98,24 @@ impl<W: Waiter> Read for PatientStream<'_, W> {
     }
 }
 
+/// How long a server has for the end of a connection that said BYE, in seconds.
+const END_WAIT: u64 = 1;
+
+/// Waits until a server has ended a connection that said BYE, or a second is over: from its end on
+/// the number of its thread is free.
+pub fn await_end(stream: &UnixStream) {
+    if stream
+        .set_read_timeout(Some(Duration::from_secs(END_WAIT)))
+        .is_err()
+    {
+        return;
+    }
+    let mut stream = stream;
+    let mut bytes = [0u8; 1];
+    // nothing comes behind a BYE but the end: where that is late, or cannot be read, nobody waits
+    let _ = stream.read(&mut bytes);
+}
+
 /// Whether a read ended since its time was over.
 pub fn is_late(error: &io::Error) -> bool {
     matches!(error.kind(), ErrorKind::WouldBlock | ErrorKind::TimedOut)

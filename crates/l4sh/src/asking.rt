@@ -148,7 +148,7 @@ pub(crate) fn connect_reason(
 ) -> Result<String, AllocError> {
     let help = match error.kind() {
         ErrorKind::ConnectionRefused => {
-            ": nobody serves there; l4d with --replace removes the path, and serves anew"
+            ": nobody serves there: once its l4d has ended, l4d with --replace serves anew"
         }
         ErrorKind::NotFound => ": no l4d serves there, or none that makes this path",
         ErrorKind::PermissionDenied =>

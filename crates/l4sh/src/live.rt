@@ -4,7 +4,7 @@ ghost use Rattle.l4sh.specs.Talking.{EndsOver};
 use crate::asking::connect_reason;
 use crate::prompted::Watch;
 use ipc_base::{Failures, Past, PortRead, PortWrite, ReadPort, WritePort};
-use ipc_client::{Client, PATIENCE, PatientStream, Waiter};
+use ipc_client::{Client, PATIENCE, PatientStream, Waiter, await_end};
 use ipc_host::{NotingReader, NotingWriter};
 use l4sh_options::TalkOptions;
 use l4sh_talk::{Ending, talk_to};
@@ -101,7 +101,7 @@ fn talk_at<N: Net + Eprint, R: PortRead, W: PortWrite>(
 fn space_reason(alloc: Global, path: &str, error: &io::Error) -> Result<String, AllocError> {
     match error.kind() {
         ErrorKind::ConnectionRefused => format!(in alloc;
-            "{path}: {error}: nobody listens there: its l4d has ended, and --replace serves anew; or the path has had its --connections, and --keep-open helps"
+            "{path}: {error}: nobody listens there: its l4d has ended, or is ending, and --replace serves anew then; or the path has had its --connections, and --keep-open helps"
         ),
         ErrorKind::PermissionDenied => format!(in alloc;
             "{path}: {error}: only the user whose l4d serves there may connect, root, and whom its --mode lets in"
@@ -147,6 +147,9 @@ fn talk_along<N: Eprint, R: PortRead, W: PortWrite>(
         };
     }
     let Spoken { ending, .. } = spoken;
+    if matches!(ending, Ending::Done) {
+        await_end(stream);
+    }
     let ending = if watch.is_over() {
         Ending::GONE
     } else {

@@ -82,7 +82,8 @@ pub(crate) fn prompt() -> &'static str {
 }
 
 /// A port before each read of which the prompt stands on standard output: what a terminal hands on
-/// at once is a line. Where the connection ends before that, the read fails.
+/// at once is a line. Where the connection ends before that, the read fails. Where the input ends
+/// the line of the prompt ends, too.
 #[derive(Drop)]
 pub(crate) struct PromptedPort<'a, R: Print, P: PortRead> {
     rt: &'a R,
@@ -125,6 +126,13 @@ impl<R: Print, P: PortRead> PromptedPort<'_, R, P> {
         }
         is_over
     }
+
+    // Ends the line of the prompt where so many bytes are the end of the input.
+    fn note_end(&self, count: usize) {
+        if count == 0 && !self.prompt.is_empty() {
+            let _ = self.rt.print("\n");
+        }
+    }
 }
 
 impl<R: Print, P: PortRead> PortRead for PromptedPort<'_, R, P> {
@@ -140,6 +148,8 @@ impl<R: Print, P: PortRead> PortRead for PromptedPort<'_, R, P> {
             self.failures += 1;
             return Err(PortFault::DeviceFailed);
         }
-        self.port.read(buf)
+        let count = self.port.read(buf)?;
+        self.note_end(count);
+        Ok(count)
     }
 }

@@ -19,7 +19,8 @@ use std::alloc::{AllocError, Global};
 /// the exact one that it stands for where that is another, the lines of the entries that it wrote,
 /// and its answer with words beside it. A mistake is told and ends nothing.
 ///
-/// The prompt is put before each line is read; where it is empty there is none.
+/// The prompt is put before each line is read, and its line ends with the input; where it is empty
+/// there is none.
 ///
 /// It ends as `DeviceFailed` only where a call of the reader or of the writer failed in this run.
 pub fn talk_with<R: PortRead, W: PortWrite>(
@@ -67,6 +68,18 @@ fn put_prompt<W: PortWrite>(writer: &mut W, prompt: &str) -> Result<(), PortFaul
     }
 }
 
+// Ends the line of the prompt, if there is one.
+fn end_prompt<W: PortWrite>(writer: &mut W, prompt: &str) -> Result<(), PortFault>
+    ensures failed { OnErr result (W.failures writer.old < W.failures writer.new) }
+    ensures kept { OnOk result (W.failures writer.new ≡ W.failures writer.old) }
+{
+    if prompt.is_empty() {
+        Ok(())
+    } else {
+        put(writer, b"\n")
+    }
+}
+
 // Obeys what is typed as `talk_with` does, by this kernel. The bytes of a buffer stand before those
 // of the reader, and each line is read into `line`.
 fn talk_lines<R: PortRead, W: PortWrite>(
@@ -91,16 +104,17 @@ fn talk_lines<R: PortRead, W: PortWrite>(
                     return exit;
                 }
             }
-            LineEnd::Input => return last_reply(alloc, kernel, spaces, line, writer),
+            LineEnd::Input => return last_reply(alloc, prompt, kernel, spaces, line, writer),
             LineEnd::Failed => return Exit::DeviceFailed,
             LineEnd::NoMemory => return Exit::NoMemory,
         }
     }
 }
 
-// Puts what is said to the last line, and says how the talk ends.
+// Ends the line of the last prompt, puts what is said to the last line, and says how the talk ends.
 fn last_reply<W: PortWrite>(
     alloc: Global,
+    prompt: &str,
     kernel: &mut Kernel,
     spaces: &mut Spaces,
     line: &[u8],
@@ -110,6 +124,9 @@ fn last_reply<W: PortWrite>(
     ensures failed { result ≡ Exit.DeviceFailed → W.failures writer.old < W.failures writer.new }
     ensures kept { result ≢ Exit.DeviceFailed → W.failures writer.new ≡ W.failures writer.old }
 {
+    if end_prompt(writer, prompt).is_err() {
+        return Exit::DeviceFailed;
+    }
     match reply(alloc, "", kernel, spaces, line, writer) {
         Some(exit) => exit,
         None => Exit::Done,

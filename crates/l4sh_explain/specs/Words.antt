@@ -1,5 +1,5 @@
 -- Our choice (docs/FORMATS.md): the words with which a reason begins.
-use Rattle.std.specs.Prelude.{◌≡◌, ℕ, List, ◌++◌, codes}
+use Rattle.std.specs.Prelude.{◌≡◌, ℕ, ◌==◌, List, ◌++◌, codes, if◌then◌else◌}
 use Rattle.std.specs.Fmt.{decimal}
 use Rattle.l4sh_explain.specs.declared.grammars.Field.{Field}
 use Rattle.l4sh_explain.specs.declared.grammars.Field.TheVariants.{Number, Space, Thread, To, From, Timeouts, Tag, Originator, Words, Strings, Buffers, Target, Control, MaskedControl, Moment, Connection, Bytes, ByteCount, Call, SendingCall, ReceivingCall, Code}
@@ -46,11 +46,20 @@ field_words SendingCall = codes "sending call"
 field_words ReceivingCall = codes "receiving call"
 field_words Code = codes "code"
 
+-- that one field is wanted, or several are, and how many came
+abbrev pub one_wanted_words : ℕ → List ℕ
+one_wanted_words came =
+    codes "behind its name this line wants 1 field, but " ++ (decimal came ++ codes " came")
+
+abbrev pub several_wanted_words : ℕ → ℕ → List ℕ
+several_wanted_words wanted came =
+    codes "behind its name this line wants " ++ (decimal wanted ++ (codes " fields, but "
+    ++ (decimal came ++ codes " came")))
+
 -- how many fields are wanted, and how many came
 abbrev pub count_words : ℕ → ℕ → List ℕ
 count_words wanted came =
-    codes "behind its name this line wants " ++ (decimal wanted ++ (codes " fields, but "
-    ++ (decimal came ++ codes " came")))
+    (if wanted == 1 then one_wanted_words came else several_wanted_words wanted came)
 
 -- the number and the name of a field
 abbrev pub place_words : ℕ → Field → List ℕ

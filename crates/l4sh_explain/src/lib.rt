@@ -32,7 +32,7 @@ pub use laws::{good_trace_lines_are_entries, rules_are_the_normal_form};
 pub use periods::{answer_period, tell_period};
 pub use reasons::{BadField, Reason, Wanted, reason_of, reason_text};
 pub use rules::CallRule;
-pub use tags::{TagRequest, answer_tag, tell_tag};
+pub use tags::{FUNCTION_FAILED, TagRequest, answer_tag, tell_tag};
 pub use text::{Printable, Shown, wanted_hex};
 pub use times::{TimeFault, TimeUnit, period_of, read_period, read_time};
 pub use told::Told;

@@ -10,6 +10,10 @@ use ipc_words::limits::MAX_MESSAGE_WORDS;
 use ipc_words::{MsgTag, TagFields};
 use std::alloc::{AllocError, Global};
 
+/// The label of the empty message that an asker gets in place of an answer: the server's function
+/// failed. The clients in C and Python name it so.
+pub const FUNCTION_FAILED: u64 = 0xffff_ffff_ffff;
+
 /// What is asked of a tag that is made: all that a sender sets.
 #[derive(Clone, Copy)]
 pub struct TagRequest {
@@ -59,11 +63,13 @@ pub fn tell_tag(text: &mut String, tag: MsgTag) -> Result<(), AllocError> {
         let noun = plural(typed, "typed word", "typed words");
         write!(text, ", {typed} {noun}")?;
     }
+    let is_failed_answer = label == FUNCTION_FAILED && words == 0 && typed == 0;
     let flags = [
         (tag.propagates(), ", p: propagated"),
         (tag.redirects(), ", r: redirected"),
         (tag.crosses(), ", X: from another processor"),
         (tag.has_failed(), ", E: the call failed"),
+        (is_failed_answer, ", the label FUNCTION_FAILED"),
     ];
     for (is_set, words) in flags {
         if is_set {

@@ -288,10 +288,17 @@ impl fmt::Display for Counted {
 
     fn fmt<W: fmt::Write>(&self, f: &mut fmt::Formatter<W>) -> fmt::Result {
         let (wanted, came) = (self.wanted, self.came);
-        write!(
-            f,
-            "behind its name this line wants {wanted} fields, but {came} came"
-        )
+        if wanted == 1 {
+            write!(
+                f,
+                "behind its name this line wants 1 field, but {came} came"
+            )
+        } else {
+            write!(
+                f,
+                "behind its name this line wants {wanted} fields, but {came} came"
+            )
+        }
     }
 }
 

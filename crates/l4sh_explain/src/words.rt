@@ -7,9 +7,16 @@ use ipc_lines::{HexText, IdText, read_hex, read_id};
 use ipc_words::{ErrorKind, IpcError, MsgTag, Period, Phase, ThreadId, ThreadIdKind};
 use std::alloc::{AllocError, Global};
 
-/// What a code of a refusal or of a fault means, and what helps; what a word in HEX or an id means,
-/// line by line.
+/// What is said of the label `FUNCTION_FAILED`.
+const FUNCTION_FAILED_LINES: &str =
+    "FUNCTION_FAILED: the label 0xffffffffffff of an empty answer: the function of the server failed, or its answer cannot be sent\nwhat helps: what the server tells on its standard error, or its own program\n";
+
+/// What a code of a refusal or of a fault means, and what helps; what a label means that clients
+/// name; what a word in HEX or an id means, line by line.
 pub fn explain(alloc: Global, word: &str) -> Result<Told, AllocError> {
+    if is_function_failed(word.as_bytes()) {
+        return Ok(Told::Answer(String::from_str(alloc, FUNCTION_FAILED_LINES)?));
+    }
     if let Some(code) = code_of(word.as_bytes()) {
         return Ok(Told::Answer(code_line(alloc, code)?));
     }
@@ -20,6 +27,13 @@ pub fn explain(alloc: Global, word: &str) -> Result<Told, AllocError> {
         Some(id) => Ok(Told::Answer(id_line(alloc, id)?)),
         None => unknown(alloc, word),
     }
+}
+
+// Whether it is the name of that label in the client of Python, or of C, with small letters or
+// capitals.
+fn is_function_failed(word: &[u8]) -> bool {
+    "FUNCTION_FAILED".as_bytes().eq_ignore_ascii_case(word)
+        || "L4_FUNCTION_FAILED".as_bytes().eq_ignore_ascii_case(word)
 }
 
 fn code_line(alloc: Global, code: Code) -> Result<String, AllocError> {

@@ -32,4 +32,4 @@ pub use server_words::server_options;
 pub use shell::shell_options;
 pub use state::StateOptions;
 pub use talk::TalkOptions;
-pub use version::{VERSION, tell_version};
+pub use version::{VERSION, tell_version, tell_version_of};

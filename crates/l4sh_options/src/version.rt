@@ -6,8 +6,8 @@ use std::io;
 use std::path::Path;
 use std::rt::Files;
 
-/// The version of `l4d` and `l4sh`, and the logic that they are proved with, as `rt version` has it
-/// behind the kit's name.
+/// The version of `l4d`, `l4sh` and `l4x`, and the logic that they are proved with, as `rt version`
+/// has it behind the kit's name.
 pub const VERSION: &str = "1.0 (logic dac8208d650f15bf)";
 
 /// The file beside an installed program that has the commit that it was made of.
@@ -26,6 +26,25 @@ pub fn tell_version<R: Files + Alloc + Print>(
     version: &Error,
 ) -> io::Result<()> {
     rt.print(version)?;
+    tell_commit(rt, alloc)
+}
+
+/// The same of a program of this name that reads its words itself.
+///
+/// # Errors
+///
+/// The system's, where standard output cannot be written.
+pub fn tell_version_of<R: Files + Alloc + Print>(
+    rt: &R,
+    alloc: Global,
+    name: &str,
+) -> io::Result<()> {
+    println!(rt; "{name} {VERSION}")?;
+    tell_commit(rt, alloc)
+}
+
+/// Prints the commit on a line of its own, where it is known.
+fn tell_commit<R: Files + Alloc + Print>(rt: &R, alloc: Global) -> io::Result<()> {
     match commit(rt, alloc) {
         Some(commit) => println!(rt; "commit {}", commit.trim()),
         None => Ok(()),

@@ -9,7 +9,7 @@ use crate::versions::{Found, is_missing};
 use ipc_client::{Answer, Failure, Received, Registers};
 use ipc_frame::{IpcrFrame, Placed};
 use ipc_words::{Control, ErrorKind, IpcError, Phase, ThreadId};
-use l4sh_explain::meaning_behind;
+use l4sh_explain::{FUNCTION_FAILED, meaning_behind};
 use l4sh_state::cause_of;
 use std::alloc::{AllocError, Global};
 
@@ -208,9 +208,17 @@ fn tell_message(said: &mut Said, received: &Received, actual: ThreadId) {
         said.id(actual);
     }
     said.put(", label ");
-    said.label(received.label());
+    tell_label(said, received.label());
     said.put(", ");
     tell_words(said, received.words());
+}
+
+// A label, and the name that it has in the clients.
+fn tell_label(said: &mut Said, label: u64) {
+    said.label(label);
+    if label == FUNCTION_FAILED {
+        said.put(" (FUNCTION_FAILED)");
+    }
 }
 
 fn tell_words(said: &mut Said, words: &[u64]) {

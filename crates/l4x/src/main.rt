@@ -22,9 +22,10 @@ mod trouble;
 
 use calling::{Search, Server};
 use ipc_base::{Failures, Past, PortRead, PortWrite, ReadPort, WritePort};
-use ipc_client::{Client, PATIENCE, PatientStream, Waiter};
+use ipc_client::{Client, PATIENCE, PatientStream, Waiter, await_end};
 use ipc_host::{NoWords, NotingReader, NotingWriter, StandardStreams, tell_no_text, words_of};
 use ipc_words::ThreadId;
+use l4sh_options::tell_version_of;
 use mistake::Mistake;
 use registration::Registration;
 use role::{Role, Task};
@@ -34,7 +35,7 @@ use std::marker::Brand;
 use std::net::Net;
 use std::os::unix::net::UnixStream;
 use std::process::ExitCode;
-use std::rt::Clock;
+use std::rt::{Clock, Files};
 use std::sync::Wait;
 use std::sync::atomic::{AtomicBool, Ordering};
 use std::sync::ledger::{Blank, Ledger};
@@ -53,13 +54,15 @@ fn main(rt: HostRuntime) -> io::Result<ExitCode> {
 }
 
 /// Does what the words ask for, and answers the status of the program.
-fn obey_words<R: Net + Wait + Clock + Print + Eprint>(
+fn obey_words<R: Net + Wait + Clock + Files + Alloc + Print + Eprint>(
     rt: &R,
     alloc: Global,
     words: &[String],
 ) -> io::Result<ExitCode> {
     let done = if ask_for_help(words) {
         say_usage(rt)
+    } else if ask_for_version(words) {
+        say_version(rt, alloc)
     } else {
         obey(rt, alloc, words)
     };
@@ -72,6 +75,12 @@ fn obey_words<R: Net + Wait + Clock + Print + Eprint>(
 /// Prints the words that name a role.
 fn say_usage<R: Print>(rt: &R) -> Result<(), Trouble> {
     let said = println!(rt; "{USAGE}");
+    said.map_err(|error| Trouble::NoOutput(error))
+}
+
+/// Prints the version, as `l4d` and `l4sh` do.
+fn say_version<R: Files + Alloc + Print>(rt: &R, alloc: Global) -> Result<(), Trouble> {
+    let said = tell_version_of(rt, alloc, "l4x");
     said.map_err(|error| Trouble::NoOutput(error))
 }
 
@@ -91,6 +100,14 @@ fn ask_for_help(words: &[String]) -> bool {
     }
 }
 
+/// Whether they ask for the version, and for nothing else.
+fn ask_for_version(words: &[String]) -> bool {
+    match words {
+        [_, word] => matches!(word.as_str(), "--version" | "-V"),
+        _ => false,
+    }
+}
+
 /// Plays the role that the words name, over a connection of its own.
 fn obey<R: Net + Wait + Clock + Print + Eprint>(
     rt: &R,
@@ -101,8 +118,10 @@ fn obey<R: Net + Wait + Clock + Print + Eprint>(
     let stream = connect(rt, alloc, task.dir)?;
     let (reads, writes) = (Blank::new(1), Blank::new(1));
     let played = start::<Brand, Brand, _>(rt, alloc, &stream, task, reads, writes);
-    drop(stream);
     let Played { end, .. } = played;
+    if end.is_ok() {
+        await_end(&stream);
+    }
     end
 }
 

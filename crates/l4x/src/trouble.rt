@@ -21,7 +21,7 @@ pub const USAGE: &str = "usage: l4x DIR ROLE, where the role is one of
     lookup NAME                thread 3, which prints the live thread of a name, or nothing (status 1)
 
 With --names as the last word a server registers as keyvalue or gateway, and who looks for one asks the name server.
-Without it a server is looked for by its thread number.";
+Without it a server is looked for by its thread number. l4x --version tells the version.";
 
 /// What is said where a path refuses connections.
 const CLOSED: &str =

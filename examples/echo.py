@@ -79,11 +79,17 @@ def ask(directory, word):
 def main(words):
     if len(words) == 2 and words[1] == "serve":
         serve(words[0])
-    elif len(words) == 3 and words[1] == "ask" and words[2].isdigit():
+    elif len(words) == 3 and words[1] == "ask" and words[2].isdecimal() and int(words[2]) < 2**64:
         ask(words[0], int(words[2]))
     else:
-        sys.exit(__doc__)
+        print(__doc__, file=sys.stderr)
+        sys.exit(2)
 
 
 if __name__ == "__main__":
-    main(sys.argv[1:])
+    try:
+        main(sys.argv[1:])
+    except KeyboardInterrupt:
+        sys.exit(130)
+    except OSError as error:
+        sys.exit(f"echo: {sys.argv[1]}/space1: {error}")

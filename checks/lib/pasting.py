@@ -70,4 +70,5 @@ def at_a_terminal(data, folder, *shell):
     return re.sub(r"\x1b\[[?\d;]*[A-Za-z]", "", text.decode(errors="replace")).replace("\r", "")
 
 
-FORMS = [as_words, as_input, typed, pasted, *[typed_in_zsh] * bool(shutil.which("zsh"))]
+# Those whose shell is there.
+FORMS = [*[as_words, as_input, typed, pasted] * bool(shutil.which("bash")), *[typed_in_zsh] * bool(shutil.which("zsh"))]

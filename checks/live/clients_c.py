@@ -23,7 +23,7 @@ sys.path.insert(1, f"{sys.path[0]}/../lib")
 from c_client.building import build, check_headers, check_languages, check_library
 from c_client.calls import check_errors, check_faults, check_refusals, check_traffic
 from c_client.examples import L4xNames, check_examples, check_first_block, check_l4x, check_names, check_names_again, check_python, check_worst
-from c_client.lives import check_long_life, check_threads, check_unix
+from c_client.lives import check_long_life, check_roundtrip, check_threads, check_unix
 from c_client.played import check_plays, check_vectors
 from kit import ROOT
 from name_server import NameServer
@@ -67,12 +67,14 @@ def main(arguments):
         print(f"threads: {passed} words between threads of one process", flush=True)
         rows = check_unix(programs, l4d, l4sh, room)
         print(f"unix: {rows} rows of fork, signals, ends of threads, calls that were left", flush=True)
+        measured = check_roundtrip(programs, l4d, room)
+        print(f"roundtrip: {measured} runs on one server", flush=True)
         living.join()
         assert lived, "the server did not live on"
         print(f"long life: {lived[0][0]} calls, {lived[0][1]} KiB more than after the first 50,000", flush=True)
     finally:
         shutil.rmtree(room)
-    total = names + words + vectors + plays + refusals + told + faults + outcomes + asked + passed + pairs + worst + rows
+    total = names + words + vectors + plays + refusals + told + faults + outcomes + asked + passed + pairs + worst + rows + measured
     print(f"clients_c: all right: {total} comparisons, {plays} of them answers that were played, {told + outcomes} outcomes as in a trace")
 
 

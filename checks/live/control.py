@@ -240,7 +240,7 @@ def check_path(l4d, l4sh):
             behind = f"l4sh: bad word\n{server.folder}: is a folder, of a live server: wanted is nothing behind it; not trace\n"
             tally.same(f"a word behind the folder of {word}", tool(l4sh, word, server.folder, "trace"), (2, "", behind))
         check_denied(l4sh, server)
-    nobody = f"l4sh: {server.folder}/control: Connection refused (os error 111): nobody serves there; l4d with --replace removes the path, and serves anew\n"
+    nobody = f"l4sh: {server.folder}/control: Connection refused (os error 111): nobody serves there: once its l4d has ended, l4d with --replace serves anew\n"
     for word in ("state", "count", "follow", "rotate"):
         tally.same(f"{word} of a server that was killed", tool(l4sh, word, server.folder), (1, "", nobody))
     with Server(l4d, "--no-control") as server:

@@ -7,13 +7,14 @@ cancellations. After each of these the program is asked once more, properly, and
 end within seconds. Each program that asks has to print what its page says. A program of a page that stands in no row of this check is a failure.
 
 README's block is run as one, as somebody pastes it: as the words of a shell, as its input, and at a terminal, as keys and as a paste, and as
-keys in zsh where that is there. It has to print its answer each time. With --times N it is run so many times in each of these forms, and nothing else is looked at.
+keys in zsh, where these shells are there. It has to print its answer each time. With --times N it is run so many times in each of these forms, and nothing else is looked at.
 
 Its last line is `N checked, M failed`; the status is 0 where M is 0.
 """
 
 import os
 import re
+import signal
 import subprocess
 import sys
 import tempfile
@@ -27,6 +28,7 @@ from counting import Tally
 from frames import ANY, ipc
 from kit import ROOT
 from l4ipc import Closed, IpcError, Message, Thread, ThreadId
+from l4ipc.names import Names
 from l4ipc.words import MAX_LABEL, MAX_STRING_BYTES, timeouts
 from name_server import NameServer
 from page_text import blocks_of, text_of
@@ -35,6 +37,7 @@ from serving import Client, Server, ended
 
 PAGES = ["README.md", "clients/python/README.md", "docs/TUTORIAL.md", "docs/NAMES.md"]
 EXAMPLES = ["examples/echo.py", *(f"clients/python/examples/{name}.py" for name in ("cancel", "driver", "gateway", "pager", "pingpong", "string_copy"))]
+ENVIRONMENT = {**os.environ, "PYTHONPATH": f"{ROOT}/clients/python/src", "PYTHONUNBUFFERED": "1"}
 SECONDS_TO_END = 15
 TIMES = 5
 PAGE_FAULT = -2 << 4 & MAX_LABEL
@@ -70,12 +73,14 @@ def words_are(*wanted):
 
 
 DEVICE = "DEVICE"
+DRIVE = ("clients/python/README.md", 6)
 PINGPONG = ("clients/python/examples/pingpong.py", "serve")
 SILENT = ("clients/python/examples/cancel.py", "silent")
 # Each program by its page, and by its file there or its place.
 SERVES = {
     ("README.md", "server.py"): Serving(1, Message(0, [40, 2]), words_are(42)),
     ("clients/python/README.md", 1): Serving(1, Message(0, [40, 2]), words_are(42)),
+    DRIVE: Serving(60, Message(1), lambda answer: bytes(answer.strings[0]) == b"a line", (DEVICE,)),
     ("docs/TUTORIAL.md", 1): Serving(1, Message(0, [41]), words_are(42)),
     ("docs/NAMES.md", 1): Serving(1, Message(0, [42]), words_are(42)),
     ("examples/echo.py", "serve"): Serving(1, Message(0, [41]), words_are(42), ("serve",)),
@@ -93,6 +98,38 @@ ASKS = {
     ("clients/python/README.md", 7): Asking((("clients/python/README.md", 1),), "42\n"),
     ("docs/NAMES.md", 2): Asking((("docs/NAMES.md", 1),), "42\n"),
 }
+# A piece of a program on a page, and what stands around it where it is run.
+PIECES = {DRIVE: """
+import os, select, sys
+from l4ipc import IpcError, L4Error, Message, Thread
+
+{block}
+
+def main(directory, path):
+    device = os.fdopen(os.open(path, os.O_RDWR), "rb", 0)
+    with Thread(directory, 60) as thread, Thread(directory, 61) as answers:
+        lines, clients = [], []
+
+        def give():
+            while lines and clients:
+                answers.send(clients.pop(), Message(0, [], [lines[-1]], originator=thread.id), 0)
+                lines.clear()
+
+        def take_request(request):
+            clients.append(request.sender)
+            give()
+
+        def take_data(device):
+            lines.extend(os.read(device.fileno(), 4096).splitlines())
+            give()
+
+        drive(thread, device, take_request, take_data)
+
+try:
+    main(*sys.argv[1:])
+except L4Error as end:
+    sys.exit(f"drive: {{end}}")
+"""}
 # These wait for a server, and end with l4d, too.
 WAITS = {("clients/python/examples/cancel.py", "call"): Asking((SILENT,), "", ("call",))}
 
@@ -115,6 +152,8 @@ def all_programs(folder):
         for place, block in blocks.items():
             compile(block, f"{page} {place}", "exec")
             key = page, place
+            if key in PIECES:
+                block = PIECES[key].format(block=block)
             if is_program(block):
                 check(f"{page} {place} stands in a row of this check", key in SERVES or key in ASKS, block)
                 programs[key] = f"{folder}/{len(programs)}.py"
@@ -160,7 +199,7 @@ class Running:
         words = [self.device() if word == DEVICE else word for word in row.words]
         process = subprocess.Popen(
             [sys.executable, self.programs[key], self.server.folder, *words], stdin=subprocess.DEVNULL, stdout=subprocess.PIPE, stderr=subprocess.STDOUT,
-            text=True, errors="replace", env={**os.environ, "PYTHONPATH": f"{ROOT}/clients/python/src", "PYTHONUNBUFFERED": "1"})
+            text=True, errors="replace", env=ENVIRONMENT, preexec_fn=lambda: signal.signal(signal.SIGINT, signal.SIG_DFL))
         self.started.append(process)
         return process
 
@@ -319,6 +358,20 @@ def survives(l4d, programs, key):
         ends_with_l4d(running, name, process)
 
 
+def ends_by_ctrl_c(l4d, programs, key):
+    """An example that serves: Ctrl-C ends it without a word."""
+    row, name = SERVES[key], " ".join(map(str, key))
+    with Running(l4d, programs) as running:
+        process = running.start(key, row)
+        said = running.until_it_serves(row)
+        process.send_signal(signal.SIGINT)
+        try:
+            text, _ = process.communicate(timeout=SECONDS_TO_END)
+            check(f"{name} ends by Ctrl-C", not said and process.returncode == 130 and "Traceback" not in text, f"{said} {process.returncode} {text}")
+        except subprocess.TimeoutExpired:
+            check(f"{name} ends by Ctrl-C", False, said)
+
+
 def ends_with_l4d(running, name, process):
     running.server.process.kill()
     try:
@@ -362,6 +415,8 @@ def waits(l4d, programs, key):
 def block_works(l4d, times):
     """README's block of two processes, as one; the programs of `l4d` and of the client's package are those of this tree."""
     (block,) = re.findall(r"^```sh\n(cat > server\.py <<'END'.*?)^```$", text_of("README.md"), re.S | re.M)
+    if not pasting.FORMS:
+        print("README's block as one: left out, since bash is not there", flush=True)
     for form in pasting.FORMS:
         failures = []
         for _ in range(times):
@@ -374,6 +429,29 @@ def block_works(l4d, times):
         check(f"README's block as one, {form.__name__}, {times} times", not failures, f"{len(failures)} failed: {failures[:1]}")
 
 
+def another_driver(l4d):
+    """driver.py DIR ask tells in one line that who has the name `driver` is another driver, as that of the client in C."""
+    with Running(l4d, {}) as running, thread(running.server.folder, 60) as other:
+        Names(other).register("driver")
+        process = subprocess.Popen([sys.executable, f"{ROOT}/clients/python/examples/driver.py", running.server.folder, "ask"], stdin=subprocess.DEVNULL,
+                                   stdout=subprocess.PIPE, stderr=subprocess.STDOUT, text=True, env=ENVIRONMENT)
+        running.started.append(process)
+        other.send(other.wait(20).sender, Message(0, [7]), 5)
+        text, _ = process.communicate(timeout=20)
+        check("driver.py beside another driver", (process.returncode, text.count("\n"), "60.1 answered without a line" in text) == (1, 1, True), text)
+
+
+def words_are_told(folder):
+    """Words that an example does not take are told in a few lines, with status 2; that nobody serves in the folder is told in one, with status 1."""
+    for path in EXAMPLES:
+        (role, *_) = re.findall(rf"^    {os.path.basename(path)} DIR ((?:serve|silent)(?: DEVICE)?)", text_of(path), re.M)
+        served = [it.replace("DEVICE", os.devnull) for it in role.split()]
+        for words, status in (([], 2), ([folder, "walk"], 2), ([folder, "ask", "x"], 2), ([folder, *served, "more"], 2), ([folder, *served], 1)):
+            ran = subprocess.run([sys.executable, f"{ROOT}/{path}", *words], env=ENVIRONMENT, stdin=subprocess.DEVNULL, capture_output=True, text=True, timeout=20)
+            is_told = "Traceback" not in ran.stderr and ran.stderr and (status == 2 or ran.stderr.count("\n") == 1)
+            check(f"{path} {words}", (ran.returncode, ran.stdout) == (status, "") and is_told, f"{ran.returncode} {ran.stderr}")
+
+
 def main():
     l4d = os.path.abspath(sys.argv[1])
     if sys.argv[2:]:
@@ -381,11 +459,15 @@ def main():
         return tally.end()
     block_works(l4d, TIMES)
     with tempfile.TemporaryDirectory() as folder:
+        words_are_told(folder)
+        another_driver(l4d)
         programs = all_programs(folder)
         for kind, table in ((survives, SERVES), (prints, ASKS), (waits, WAITS)):
             for key in table:
                 if key in programs:
                     kind(l4d, programs, key)
+                if kind is survives and key[0] in EXAMPLES:
+                    ends_by_ctrl_c(l4d, programs, key)
     return tally.end()
 
 

@@ -435,7 +435,7 @@ def check_moved(l4d, l4sh):
 
 
 def check_pipe(l4d, l4sh):
-    """A pipe is not renamed: what comes behind goes there, too."""
+    """A pipe is one file to its end: no size and no `l4sh rotate` ends it, and a reader finds one trace."""
     folder = tempfile.mkdtemp(prefix="l4d-")
     pipe, lines, is_over = f"{folder}/trace", [], threading.Event()
     os.mkfifo(pipe)
@@ -446,10 +446,11 @@ def check_pipe(l4d, l4sh):
                 lines.extend(file.read().splitlines())
 
     threading.Thread(target=read, daemon=True).start()
-    with Server(l4d, "--trace-keep", "2", "--connections", "2", folder=folder, trace=True) as server:
+    with Server(l4d, "--trace-keep", "2", "--trace-size", "100", "--connections", "2", folder=folder, trace=True) as server:
         pair = Client(server.path, 1), Client(server.path, 2)
         pair_works(pair)
-        tally.same("l4sh rotate of a pipe", rotated(l4sh, server)[0], 0)
+        why = f"l4sh: {folder}/control: the trace is a pipe, which is one file to its end\n"
+        tally.same("l4sh rotate of a pipe", rotated(l4sh, server), (4, "", why))
         pair_works(pair)
         time.sleep(0.3)
         pair_works(pair)
@@ -460,7 +461,7 @@ def check_pipe(l4d, l4sh):
         time.sleep(0.3)
         check("the pipe is there", stat.S_ISFIFO(os.stat(pipe).st_mode), oct(os.stat(pipe).st_mode))
         tally.same("and nothing beside it", [it for it in os.listdir(folder) if it.startswith("trace.")], [])
-        tally.same("a trace, and a part behind it", [line for line in lines if line.startswith(("l4trace", "l4part"))], ["l4trace 2", "l4part 1"])
+        tally.same("one trace", [line for line in lines if line.startswith(("l4trace", "l4part"))], ["l4trace 2"])
 
 
 def little_room():

@@ -88,7 +88,7 @@ def check_unconnected(l4sh, l4x):
         why = "nobody listens there any more: its l4d has ended, or the path has had its --connections: start l4d anew, with --replace or --keep-open"
         tally.same("l4x where nobody listens any more", (ran.returncode, ran.stderr), (1, f"l4x: {folder}/space1: {why}\n"))
         ran = subprocess.run([l4sh, "talk", folder], stdin=subprocess.DEVNULL, capture_output=True, text=True, timeout=SECONDS)
-        why = "nobody listens there: its l4d has ended, and --replace serves anew; or the path has had its --connections, and --keep-open helps"
+        why = "nobody listens there: its l4d has ended, or is ending, and --replace serves anew then; or the path has had its --connections, and --keep-open helps"
         told = f"l4sh: no server\n{folder}/space1: Connection refused (os error 111): {why}\n"
         tally.same("l4sh talk where nobody listens any more", (ran.returncode, ran.stderr), (4, told))
         os.remove(f"{folder}/space1")

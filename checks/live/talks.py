@@ -71,6 +71,10 @@ EXCHANGES = [
      "0000002e 02 0000000000000000 ffffffffffffffff 00000000 0000000000000000 0000000000000000 0000000000000000 00",
      "00000022 82 0000000100000000 0000000200000001 0000000000000000 0000000000000000 00",
      "= 0x100000000 2.1 nil 0x0 - -    from 2.1, label 0x10000, no words\n"),
+    ("wait",
+     "0000002e 02 0000000000000000 ffffffffffffffff 00000000 0000000000000000 0000000000000000 0000000000000000 00",
+     "00000022 82 ffffffffffff0000 0000000200000001 0000000000000000 0000000000000000 00",
+     "= 0xffffffffffff0000 2.1 nil 0x0 - -    from 2.1, label 0xffffffffffff (FUNCTION_FAILED), no words\n"),
     ("quit", BYE, "", ""),
 ]
 # What is told where the connection ends.
@@ -195,24 +199,31 @@ def pastes(server):
         same(f"talk {words} tells of mistakes", ran.stdout.count(b"\n? ") > 10, True)
 
 
+def at_terminal(words, typed):
+    """The status of a talk at a terminal where this is typed, and what stands there then, but for what the terminal echoes."""
+    ours, theirs = pty.openpty()
+    with subprocess.Popen([L4SH, "talk", *words], stdin=theirs, stdout=theirs, stderr=theirs, close_fds=True) as talk:
+        os.close(theirs)
+        os.write(ours, typed)
+        seen = b""
+        try:
+            while piece := os.read(ours, 4096):
+                seen += piece
+        except OSError:
+            pass  # it ended, and let go of the terminal
+    os.close(ours)
+    # the terminal echoes what is typed, at a time of its own
+    return talk.returncode, seen.decode().replace("walk\r\n", "", 1).replace("quit\r\n", "", 1)
+
+
 def terminals(server):
-    """A prompt stands before each line that is typed at a terminal."""
-    for words, greeting in (((), ""), ((server.folder, "--thread", "35"), "= 35.1    this thread; help lists what it can do\r\n")):
-        ours, theirs = pty.openpty()
-        with subprocess.Popen([L4SH, "talk", *words], stdin=theirs, stdout=theirs, stderr=theirs, close_fds=True) as talk:
-            os.close(theirs)
-            os.write(ours, b"walk\nquit\n")
-            seen = b""
-            try:
-                while piece := os.read(ours, 4096):
-                    seen += piece
-            except OSError:
-                pass  # it ended, and let go of the terminal
-        os.close(ours)
-        # the terminal echoes what is typed, at a time of its own
-        said = seen.decode().replace("walk\r\n", "", 1).replace("quit\r\n", "", 1)
-        told = said.removeprefix(greeting)
-        same(f"talk {words} at a terminal", (talk.returncode, told.startswith("l4sh> "), told.count("l4sh> "), "not walk" in told), (0, True, 2, True))
+    """A prompt stands before each line that is typed at a terminal. Where the input ends its line ends, too."""
+    for words, greeting in (((), ""), ((server.folder, "--thread", "35"), "    this thread; help lists what it can do\r\n")):
+        for typed, end in ((b"walk\nquit\n", "l4sh> "), (b"walk\n\x04", "l4sh> \r\n")):
+            status, said = at_terminal(words, typed)
+            told = said.partition(greeting)[2] if greeting else said
+            seen = status, told.startswith("l4sh> "), told.count("l4sh> "), "not walk" in told, told.endswith(end)
+            same(f"talk {words} at a terminal where {typed} is typed", seen, (0, True, 2, True, True))
 
 
 def numbers(server, again):

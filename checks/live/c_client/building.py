@@ -34,8 +34,19 @@ def cc(*words):
     subprocess.run(["cc", *words], check=True)
 
 
+def links_sanitized(room):
+    """Whether the sanitizers' libraries are there, which a C compiler may come without."""
+    source = os.path.join(room, "empty.c")
+    with open(source, "w") as file:
+        file.write("int main(void) { return 0; }\n")
+    return not subprocess.run(["cc", *SANITIZED, source, "-o", os.path.join(room, "empty")], stderr=subprocess.DEVNULL).returncode
+
+
 def build(room):
-    """The tests under sanitizers, the examples both so and exactly as README says. The programs by name."""
+    """The tests under sanitizers, where cc has those; the examples both so and exactly as README says. The programs by name."""
+    if not links_sanitized(room):
+        print("the sanitizers: left out, since cc links no program with them", flush=True)
+        SANITIZED[2:] = []
     programs, objects, jobs = {}, [], []
     for source in sources():
         objects.append(os.path.join(room, os.path.basename(source)[:-2] + ".o"))
@@ -51,11 +62,9 @@ def build(room):
         source = os.path.join(CLIENT, "examples", name + ".c")
         command = ["cc", "-std=c11", "-pthread", "-I", INCLUDE, source, *sources(), "-o", os.path.join(room, "plain_" + name)]
         jobs.append(subprocess.Popen(command))
-    for name, source in (("long_life", "long_life.c"), ("plain_unix", "unix.c")):
+    for name, source in (("long_life", "tests/long_life.c"), ("plain_unix", "tests/unix.c"), ("roundtrip", "bench/roundtrip.c")):
         programs[name] = os.path.join(room, name)
-        jobs.append(subprocess.Popen(["cc", *STRICT, "-O2", os.path.join(CLIENT, "tests", source), *sources(), "-o", programs[name]]))
-    bench = os.path.join(CLIENT, "bench", "roundtrip.c")
-    jobs.append(subprocess.Popen(["cc", *STRICT, "-O2", bench, *sources(), "-o", os.path.join(room, "roundtrip")]))
+        jobs.append(subprocess.Popen(["cc", *STRICT, "-O2", os.path.join(CLIENT, source), *sources(), "-o", programs[name]]))
     assert all(job.wait() == 0 for job in jobs)
     return programs
 
@@ -85,10 +94,36 @@ int main(int argc, char **argv)
 """
 
 
+# What README's loop for an l4d that is started again stands in: a server that prints the string that it gets.
+AROUND_AGAIN = """#include <l4.h>
+#include <stdio.h>
+static char string[8];
+static L4_Bool_t answer(L4_ThreadId_t from, L4_MsgTag_t tag, void *unused)
+{
+	(void) from, (void) unused;
+	printf("%%u %%.3s\\n", (unsigned) L4_TypedWords(tag), string);
+	fflush(stdout);
+	L4_Set_MsgTag(L4_Niltag);
+	return true;
+}
+int main(int argc, char **argv)
+{
+	const char *dir = argv[argc - 1];
+	L4_MsgBuffer_t buffers;
+
+	L4_MsgBufferClear(&buffers);
+	L4_MsgBufferAppendSimpleRcvString(&buffers, L4_StringItem(sizeof string, string));
+%s
+	return 1;
+}
+"""
+
+
 def build_pages(room):
-    """Client and server of README, and the server of TUTORIAL, as they stand there."""
+    """Client, server and loop of README, and the server of TUTORIAL, as they stand there."""
     client, server = blocks_of("clients/c/README.md", "c")[:2]
-    texts = {"client": client, "readme": server, "tutorial": AROUND_LOOP % next(it for it in blocks_of("docs/TUTORIAL.md", "c") if "L4_ReplyWait" in it)}
+    texts = {"client": client, "readme": server, "tutorial": AROUND_LOOP % next(it for it in blocks_of("docs/TUTORIAL.md", "c") if "L4_ReplyWait" in it),
+             "again": AROUND_AGAIN % next(it for it in blocks_of("clients/c/README.md", "c") if it.startswith("L4_AcceptStrings"))}
     for name, text in texts.items():
         source = os.path.join(room, f"page_{name}.c")
         with open(source, "w") as file:

@@ -1,5 +1,6 @@
 """Refusals, errors, faults and random traffic of the C client against an l4d."""
 
+import errno
 import os
 import random
 import re
@@ -193,6 +194,13 @@ def check_errors(programs, l4d, room):
         assert three.code(to=thread_id(1, 2), words=(7,)) == 0
         assert two.hear()[0].split()[4] == "7"
         want(two.ask(f"call_wait 100000 {thread_id(9):x}"), r"^send phase to 9\.1: non-existing partner")
+        # nobody is called, as where a look up failed: it fails at once, and sends nothing; L4_Call leaves its phases out, as the manual has it
+        began, made = time.time(), two.ask("ipc 0 0 0 0 - - - -")[0].split()
+        assert made[0] == "0" and made[3] == "0", made
+        said = two.ask("call_wait 20000000 0")
+        assert said[0] == f"{FAILED:x} 0 0 4 - - -" and time.time() - began < 10, said
+        want(said, r"^send phase to L4_nilthread: non-existing partner \(e=2, offset 0\), nobody is called, and nothing was sent: did the look up fail\?$")
+        assert said[1] == errno.EINVAL, said
         # which string did not fit
         three.tell_ipc(source=ANY, buffers=[[3], [2, 2], [5]])
         want(("", 0, one.connect(4) and one.ipc(to=thread_id(3), strings=[[b"k"], [b""], [b"val", b"ue!"], [b"x"]])[6]),
@@ -204,7 +212,16 @@ def check_errors(programs, l4d, room):
         assert three.ask("register echo")[0] == "0" and two.hear()[0] == f"{thread_id(3):x}"
         want(two.ask("lookup_wait 100000 other"), r"^N7: no live thread has the name \(other\)$")
         names.end()
+        # what the program put into the buffer registers stays over a connection: it is accepted once
+        one.ask("disconnect")
+        one.ask("brs 0 1,1,0,8")
+        for _ in range(2):
+            assert one.connect(4)[0] == 0
+            want(one.ask("wait"), "^F6: bit 3 of a descriptor")
+            one.ask("disconnect")
+        assert one.connect(4)[0] == 0
         server.process.kill()
+        one.ask("brs 0 0")
         want(one.ask("wait"), rf"^F9: the connection ended \({server.path}\)$")
         for sayer in (say, one, two, three):
             sayer.end()

@@ -6,6 +6,7 @@ import select
 import signal
 import subprocess
 import sys
+import tempfile
 import time
 
 from c_client.building import build_pages
@@ -278,6 +279,7 @@ def check_worst(programs, l4d, room):
         assert client.communicate(timeout=SECONDS)[0] == "42\n"
         answering.kill()
         answering.wait()
+    count += check_again(programs, pages, l4d, room)
     with Server(l4d, room) as server:
         start = lambda name, *words, waits=None: run_example(room, {**programs, **pages}[name], server.dir, *words, waits=waits)
         serving = {2: start("pingpong", "pong", waits="pingpong is 2.1"), 4: start("pager", "serve", waits="pager is 4.1"),
@@ -313,6 +315,25 @@ def check_worst(programs, l4d, room):
             assert number == 40 or errors.count("got no answer: send phase to ") > 5 or number == 9, (number, errors)
             count += 1
     return count + check_worst_of_cancel(programs, l4d, room) + check_unsendable(programs, l4d, room) + check_driver(programs, l4d, room) + check_parts(programs, l4d, room)
+
+
+def check_again(programs, pages, l4d, room):
+    """README's loop of a server, beside an l4d that is started again and again: the strings that it accepted once come each time."""
+    folder, process = tempfile.mkdtemp(dir=room), None
+    for word in ("one", "two"):
+        with Server(l4d, room, "--replace", folder=folder, trace=False) as server:
+            process = process or subprocess.Popen([pages["page_again"], folder], stdout=subprocess.PIPE, text=True)
+            NameServer(server.path)
+            asker = Say(programs["say"], folder, 2)
+            to = word_of_id("0x" + asker.ask("lookup_wait 20000000 echo")[0])
+            assert asker.ipc(to=to, source=to, strings=[[word.encode()]])[3] == 0 and process.stdout.readline() == f"2 {word}\n", word
+            asker.end()
+            server.kill()
+            # the folder stays
+            server.folder = tempfile.mkdtemp(dir=room)
+    process.kill()
+    process.communicate()
+    return 2
 
 
 def check_unsendable(programs, l4d, room):

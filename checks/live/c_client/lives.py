@@ -1,8 +1,9 @@
-"""Threads of one process, fork and signals, and a long life."""
+"""Threads of one process, fork and signals, a long life, and the measurement of README."""
 
+import re
 import subprocess
 
-from c_client.saying import SECONDS, Server
+from c_client.saying import SECONDS, Say, Server
 from processes import figures
 
 
@@ -43,3 +44,20 @@ def check_long_life(programs, l4d, room):
         more = figures(server.process.pid).resident - before
         assert more <= 8 * 1024, f"{more} KiB more after {made} calls"
         return made, more
+
+
+def check_roundtrip(programs, l4d, room):
+    """The measurement of README, run by run on one server, so that its threads have other versions each time; it ends where a call fails."""
+    measure = lambda dir: subprocess.run([programs["roundtrip"], dir, "1"], capture_output=True, text=True, timeout=SECONDS)
+    with Server(l4d, room, trace=False) as server:
+        for _ in range(3):
+            ran = measure(server.dir)
+            assert ran.returncode == 0 and re.match(r"library [\d.]+ us, by hand [\d.]+ us, quotient ", ran.stdout), ran
+        for number, who in ((1, "server: REFUSED K2"), (2, "client: REFUSED K2"), (3, "HELLO by hand: no WELCOME came")):
+            other = Say(programs["say"], server.dir, number)
+            ran = measure(server.dir)
+            assert ran.returncode == 1 and ran.stderr.startswith(f"roundtrip: {who}"), ran
+            other.end()
+        ran = measure(f"{server.dir}/nowhere")
+        assert ran.returncode == 1 and ran.stderr.startswith("roundtrip: server: F10: the connection failed"), ran
+    return 7

@@ -14,8 +14,8 @@ SECONDS = 60
 class Server(PlainServer):
     """l4d with a trace, in a folder of its own."""
 
-    def __init__(self, l4d, room, *words, spaces=1, trace=True):
-        super().__init__(l4d, *words, folder=tempfile.mkdtemp(dir=room), spaces=spaces, trace=trace)
+    def __init__(self, l4d, room, *words, folder=None, spaces=1, trace=True):
+        super().__init__(l4d, *words, folder=folder or tempfile.mkdtemp(dir=room), spaces=spaces, trace=trace)
         self.dir = self.folder
 
     def is_legal(self, l4sh):

@@ -8,7 +8,7 @@ import subprocess
 import tempfile
 import time
 
-from server_cases.running import BLOCKED, PROGRAM, served
+from server_cases.running import BLOCKED, PROGRAM, has, served
 from server_cases.telling import call_nobody
 from serving import Client, pair_works
 
@@ -109,12 +109,14 @@ def terminal():
         line = Terminal("--dir", folder, "--trace", f"{folder}/trace")
         assert os.waitpid(call_nobody(f"{folder}/space1", 5, 4_000), 0)[1] == 0
         line.press_interrupt()
-        time.sleep(1)
+        time.sleep(4)
         assert line.is_there()
         begin = time.time()
         line.press_interrupt()
-        assert line.end()[0] == -signal.SIGKILL
+        status, text = line.end()
         spent = time.time() - begin
+        assert status == -signal.SIGKILL, status
+        has(text, f"l4d: ends once {folder}/trace has taken the rest of the trace; SIGKILL ends it at once")
         os.close(pipe)
         # the paths that it left are taken by --replace; who reads on the descriptor of --ready-fd gets its end while the server goes on
         ready = f"{folder}/ready"

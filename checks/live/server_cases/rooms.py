@@ -19,6 +19,8 @@ DESCRIPTORS, STRANGERS, SILENT = 64, 10_000, 1
 MOST_CONNECTIONS = MAX_CONNECTIONS + 1
 # How many tasks a server may have that gets no further worker.
 TASKS = 12
+# A user whom nobody else is.
+USER = 54_321
 # The bytes of a worker's stack, and more addresses than a server takes that was not compiled to find faults of memory.
 STACK, MOST_ADDRESSES = 1 << 18, 1 << 40
 
@@ -152,12 +154,33 @@ def closed_path():
     return err.strip().splitlines()[-1]
 
 
+def too_few_tasks():
+    """A server that cannot start its own workers ends with 1 and says what helps, and never that it listens."""
+    if left_out := without_limits():
+        return left_out
+    ended = 0
+    for tasks in range(2, TASKS + 1):
+        with tempfile.TemporaryDirectory() as folder, limited(folder, tasks) as process:
+            if process.stdout.readline():
+                time.sleep(0.3)
+                assert process.poll() is None, (tasks, process.communicate())
+                process.kill()
+                break
+            _, err = process.communicate()
+            assert process.returncode == 1, (tasks, process.returncode, err)
+            has(err.decode(), "l4d: no worker can be started")
+            assert not os.path.exists(f"{folder}/space1"), tasks
+            ended += 1
+    else:
+        raise AssertionError("it never listens")
+    assert ended, "it always listens"
+    return f"with {ended} limits it ended with 1, and told nothing before"
+
+
 def few_tasks():
     """A server that may start no further worker closes the connection, says why and what helps, with --log each time, and serves on."""
-    if not shutil.which("prlimit") or os.getuid() != 0:
-        return "left out: prlimit and root are wanted"
-    if not shutil.which("setpriv"):
-        return "left out: setpriv is wanted"
+    if left_out := without_limits():
+        return left_out
     # of one of the two it is the first worker of a connection that cannot be started, of the other one the second
     for tasks in (TASKS, TASKS + 1):
         for log in ((), ("--log",)):
@@ -165,17 +188,26 @@ def few_tasks():
     return said
 
 
+def without_limits():
+    """Why no server can be run with few tasks, if none can."""
+    if not shutil.which("prlimit") or os.getuid() != 0:
+        return "left out: prlimit and root are wanted"
+    return None if shutil.which("setpriv") else "left out: setpriv is wanted"
+
+
+def limited(folder, tasks, *words):
+    """A server that may have so many tasks, as a user whom nobody else is: the limit counts all tasks of a user."""
+    os.chmod(folder, 0o777)
+    run_as = ["prlimit", f"--nproc={tasks}", "setpriv", f"--reuid={USER}", f"--regid={USER}", "--clear-groups"]
+    place = f"{folder}/l4d"
+    shutil.copy(PROGRAM, place)
+    os.chmod(place, 0o755)
+    return subprocess.Popen([*run_as, place, "--dir", folder, "--spaces", "1", *words], stdin=subprocess.DEVNULL, stdout=subprocess.PIPE, stderr=subprocess.PIPE)
+
+
 def few_tasks_of(tasks, log):
     """The same, with so many tasks."""
-    with tempfile.TemporaryDirectory() as folder:
-        os.chmod(folder, 0o777)
-        # the limit counts all tasks of a user: one whom nobody else is
-        user = 54_321
-        run_as = ["prlimit", f"--nproc={tasks}", "setpriv", f"--reuid={user}", f"--regid={user}", "--clear-groups"]
-        place = f"{folder}/l4d"
-        shutil.copy(PROGRAM, place)
-        os.chmod(place, 0o755)
-        process = subprocess.Popen([*run_as, place, "--dir", folder, "--spaces", "1", *log], stdin=subprocess.DEVNULL, stdout=subprocess.PIPE, stderr=subprocess.PIPE)
+    with tempfile.TemporaryDirectory() as folder, limited(folder, tasks, *log) as process:
         try:
             assert process.stdout.readline() == b"listening 1\n", process.communicate()
             clients, refused = [], 0

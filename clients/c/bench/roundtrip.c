@@ -9,6 +9,7 @@
 
 #include <l4.h>
 
+#include <errno.h>
 #include <signal.h>
 #include <stdio.h>
 #include <stdlib.h>
@@ -22,22 +23,39 @@
 
 enum { BLOCK = 200, BLOCKS = 60, MOST_BLOCKS = 200, WARMING = 3, FRAME_BYTES = 58, ANSWER_BYTES = 46 };
 
-static void fail(const char *what)
+/* In microseconds, how long a number may stay that of a thread of the run before, and a while after which it is asked for again. */
+enum { PATIENCE = 5000000, PAUSE = 20000 };
+
+static void end(const char *what, const char *why)
 {
-	fprintf(stderr, "roundtrip: %s: %s\n", what, l4_error());
+	fprintf(stderr, "roundtrip: %s: %s\n", what, why);
 	exit(1);
 }
 
-/* The server: adds 1 to each word, until its parent ends. */
-static void serve(const char *dir)
+static void fail(const char *what)
 {
-	L4_ThreadId_t from;
+	end(what, l4_error());
+}
+
+/* Connects, also right behind a run whose thread of this number is just ending. */
+static void connect_as(const char *dir, unsigned number, const char *what)
+{
+	if (l4_connect_wait(dir, 1, number, 1, L4_TimePeriod(PATIENCE)) < 0)
+		fail(what);
+}
+
+/* The server: tells its id, and adds 1 to each word, until its parent ends. */
+static void serve(const char *dir, int teller)
+{
+	L4_ThreadId_t from, myself;
 	L4_MsgTag_t tag;
 	L4_Word_t word;
 
 	prctl(PR_SET_PDEATHSIG, SIGKILL);
-	if (l4_connect(dir, 1, 1) < 0)
-		fail("server");
+	connect_as(dir, 1, "server");
+	myself = L4_Myself();
+	if (write(teller, &myself, sizeof myself) != sizeof myself)
+		end("server", strerror(errno));
 	for (tag = L4_Wait(&from); L4_IpcSucceeded(tag); tag = L4_ReplyWait(from, &from)) {
 		L4_StoreMR(1, &word);
 		L4_Set_MsgTag((L4_MsgTag_t) { 1 });
@@ -78,17 +96,30 @@ static uint64_t get(const unsigned char *at)
 	return __builtin_bswap64(value);
 }
 
-static void open_by_hand(const char *dir, unsigned char number)
+/* Connects and says HELLO. False where what came is no WELCOME. */
+static bool says_hello(const struct sockaddr_un *address, unsigned char number)
 {
 	unsigned char hello[] = { 0, 0, 0, 3, 1, 0, number }, welcome[13];
+
+	line = socket(AF_UNIX, SOCK_STREAM, 0);
+	if (line < 0 || connect(line, (const struct sockaddr *) address, sizeof *address) < 0 ||
+	    send(line, hello, sizeof hello, MSG_NOSIGNAL) != sizeof hello)
+		end("HELLO by hand", strerror(errno));
+	/* the length and the kind, and then the id */
+	return recv(line, welcome, 5, MSG_WAITALL) == 5 && welcome[4] == 0x81 && recv(line, welcome + 5, 8, MSG_WAITALL) == 8;
+}
+
+static void open_by_hand(const char *dir, unsigned char number)
+{
 	struct sockaddr_un address = { .sun_family = AF_UNIX };
 
 	snprintf(address.sun_path, sizeof address.sun_path, "%s/space1", dir);
-	line = socket(AF_UNIX, SOCK_STREAM, 0);
-	if (line < 0 || connect(line, (struct sockaddr *) &address, sizeof address) < 0 ||
-	    send(line, hello, sizeof hello, 0) != sizeof hello ||
-	    recv(line, welcome, sizeof welcome, MSG_WAITALL) != sizeof welcome || welcome[4] != 0x81)
-		fail("HELLO by hand");
+	for (int left = PATIENCE / PAUSE; !says_hello(&address, number); left--) {
+		if (left == 0)
+			end("HELLO by hand", "no WELCOME came: is a thread of that number live?");
+		close(line);
+		usleep(PAUSE);
+	}
 }
 
 static L4_Word_t call_by_hand(L4_ThreadId_t to, L4_Word_t word)
@@ -102,15 +133,15 @@ static L4_Word_t call_by_hand(L4_ThreadId_t to, L4_Word_t word)
 	*at++ = 0;
 	put(at, word);
 	if (send(line, frame, sizeof frame, MSG_NOSIGNAL) != sizeof frame)
-		fail("send by hand");
+		end("send by hand", strerror(errno));
 	for (count = 0; count < ANSWER_BYTES;) {
 		ssize_t more = recv(line, answer + count, sizeof answer - (size_t) count, 0);
 		if (more <= 0)
-			fail("recv by hand");
+			end("recv by hand", more == 0 ? "the connection ended" : strerror(errno));
 		count += more;
 	}
 	if (count != ANSWER_BYTES || answer[4] != 0x82 || get(answer + 5) != 1)
-		fail("answer by hand");
+		end("answer by hand", "the call failed");
 	return get(answer + 37);
 }
 
@@ -145,7 +176,7 @@ static double measure(L4_Word_t (*call)(L4_ThreadId_t, L4_Word_t), L4_ThreadId_t
 
 	took = microseconds() - began;
 	if (answer != word + 1)
-		fail("another word came back");
+		end("client", "another word came back");
 	return took;
 }
 
@@ -165,23 +196,24 @@ int main(int argc, char **argv)
 {
 	static double library[MOST_BLOCKS * BLOCK], hand[MOST_BLOCKS * BLOCK], quotients[MOST_BLOCKS];
 	int blocks = argc == 3 ? atoi(argv[2]) : BLOCKS;
-	L4_ThreadId_t server = L4_GlobalId(1, 1);
+	L4_ThreadId_t server;
+	int teller[2];
 	pid_t child;
 
 	if (argc < 2 || argc > 3 || blocks < 1 || blocks > MOST_BLOCKS) {
 		fprintf(stderr, "usage: roundtrip DIR [BLOCKS]\n");
 		return 2;
 	}
-	child = fork();
+	if (pipe(teller) < 0 || (child = fork()) < 0)
+		end("fork", strerror(errno));
 	if (child == 0)
-		serve(argv[1]);
-	if (child < 0 || l4_connect(argv[1], 1, 2) < 0)
-		fail("connect");
+		serve(argv[1], teller[1]);
+	close(teller[1]);
+	/* whatever version the thread of the server has; a server that ended has said why */
+	if (read(teller[0], &server, sizeof server) != sizeof server)
+		return 1;
+	connect_as(argv[1], 2, "client");
 	open_by_hand(argv[1], 3);
-	/* until the server is there */
-	do
-		L4_Set_MsgTag((L4_MsgTag_t) { 1 });
-	while (L4_IpcFailed(L4_Call(server)) && L4_ErrorCode() == 0x4);
 	/* the first blocks warm up, and are written over */
 	for (int block = 0; block < WARMING; block++)
 		measure_block(server, library, hand);

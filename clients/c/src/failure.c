@@ -89,6 +89,8 @@ static void append_partner(struct text *text, bool is_receive, L4_ThreadId_t par
 		append(text, "any thread");
 	else if (L4_IsThreadEqual(partner, L4_anylocalthread))
 		append(text, "any thread of the space");
+	else if (L4_IsNilThread(partner))
+		append(text, "L4_nilthread");
 	else
 		append(text, "%llu.%llu", (unsigned long long) L4_ThreadNo(partner), (unsigned long long) L4_Version(partner));
 }
@@ -104,6 +106,8 @@ static void append_outcome(struct text *text, const struct failure *outcome)
 		append(text, ", a string did not fit the buffers that were accepted, and nothing was delivered");
 	else if (error == E_MESSAGE_OVERFLOW && outcome->string != 0)
 		append(text, ", string %u did not fit the receiver's buffers, and nothing was delivered", outcome->string);
+	if (outcome->hint != NULL)
+		append(text, ", %s", outcome->hint);
 }
 
 static void append_number(struct text *text, const struct failure *failure)

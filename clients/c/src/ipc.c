@@ -3,6 +3,8 @@
 
 #include <l4/ipc.h>
 
+#include <errno.h>
+
 /* The ErrorCode of a send to a thread that is not live. */
 enum { NOBODY_TO_SEND_TO = E_NON_EXISTING_PARTNER << 1 };
 
@@ -92,6 +94,17 @@ L4_MsgTag_t l4_ipc_end(L4_ThreadId_t *from)
 	return (L4_MsgTag_t) { TAG_FAILED };
 }
 
+/* What l4_call_wait answers for L4_nilthread. L4_Call would leave out both phases, and succeed. */
+static L4_MsgTag_t refuse_nobody(struct thread *thread)
+{
+	thread->last_call.count = 0;
+	(void) l4_tell_outcome(thread, NOBODY_TO_SEND_TO, L4_nilthread, 0);
+	thread->last.hint = "nobody is called, and nothing was sent: did the look up fail?";
+	thread->mr[0] = TAG_FAILED;
+	errno = EINVAL;
+	return (L4_MsgTag_t) { TAG_FAILED };
+}
+
 L4_MsgTag_t l4_call_wait(L4_ThreadId_t to, L4_Time_t patience)
 {
 	struct thread *thread = &l4_thread;
@@ -99,6 +112,8 @@ L4_MsgTag_t l4_call_wait(L4_ThreadId_t to, L4_Time_t patience)
 	int64_t until = l4_end_of(patience);
 	L4_MsgTag_t tag;
 
+	if (L4_IsNilThread(to) && thread->is_connected && !thread->is_calling)
+		return refuse_nobody(thread);
 	/* of a message that nobody was there to receive nothing is gone */
 	do {
 		thread->mr[0] = sent;

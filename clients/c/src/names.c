@@ -133,7 +133,7 @@ static int ask(enum label label, const char *name, L4_Time_t patience, struct an
 	int status;
 
 	thread->name[0] = 0;
-	if (!is_name(name) || (label != LIST && *name == 0))
+	if (name == NULL || !is_name(name) || (label != LIST && *name == 0))
 		return l4_refuse(thread, FOUND_HERE, 'N', N_BAD_NAME);
 	strcpy(thread->name, name);
 	L4_StoreBRs(0, BUFFER_REGISTERS, buffers);
@@ -270,6 +270,8 @@ int l4_list(const char *after, char name[L4_NAME_BYTES + 1], L4_ThreadId_t *thre
 {
 	struct answer answer = { 0 };
 
+	if (name == NULL || thread == NULL)
+		return l4_refuse(&l4_thread, FOUND_HERE, 'C', C_NO_MEMORY_THERE);
 	if (ask(LIST, after, L4_Never, &answer) < 0)
 		return -1;
 	if (L4_IsNilThread(answer.thread))

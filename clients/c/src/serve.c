@@ -105,6 +105,8 @@ int l4_serve(l4_answer_t answer, l4_trouble_t trouble, void *data)
 	L4_ThreadId_t to = L4_nilthread, from;
 	bool tells_failure = false;
 
+	if (answer == NULL)
+		return l4_refuse(thread, FOUND_HERE, 'C', C_NO_MEMORY_THERE);
 	if (trouble == NULL)
 		trouble = print_trouble;
 	do {

@@ -128,7 +128,7 @@ void l4_close(struct thread *thread)
 	release_list();
 }
 
-/* The registers of a new thread. */
+/* The registers of a new thread. The buffer registers are what the program made of them: what it accepts stays. */
 static void begin(struct thread *thread, unsigned version)
 {
 	thread->is_misused = thread->is_calling = thread->is_begun = false;
@@ -140,7 +140,6 @@ static void begin(struct thread *thread, unsigned version)
 	thread->name_server = L4_nilthread;
 	thread->kept = (struct kept) { 0 };
 	thread->error_code = 0;
-	thread->br[0] = 0;
 }
 
 /* Milliseconds of a clock that nobody sets. */
@@ -298,6 +297,8 @@ static int connect_until(const char *dir, unsigned space, unsigned number, unsig
 
 	if (thread->is_connected)
 		return l4_refuse(thread, FOUND_HERE, 'C', C_IS_CONNECTED);
+	if (dir == NULL)
+		return l4_refuse(thread, FOUND_HERE, 'C', C_NO_MEMORY_THERE);
 	if (version < FIRST_WIRE_VERSION || version > LAST_WIRE_VERSION)
 		return l4_refuse(thread, FOUND_HERE, 'C', C_NO_VERSION);
 	/* what a HELLO can ask for; whether there is such a thread the server says */

@@ -1,6 +1,7 @@
 /* The types of words, and what composes messages: each value is one that docs/FORMATS.md or the manual gives. */
 #include <l4.h>
 
+#include <errno.h>
 #include <stdio.h>
 #include <stdlib.h>
 #include <string.h>
@@ -237,6 +238,34 @@ static void check_buffers(void)
 	CHECK(words[0] == 8);
 }
 
+/* A null pointer in place of a name, of a path, of where a result goes or of a function is refused, and nothing is sent. */
+static void check_nulls(void)
+{
+	char name[L4_NAME_BYTES + 1];
+	L4_ThreadId_t thread;
+
+	errno = 0;
+	CHECK(l4_register(NULL) == -1 && errno == EINVAL && strncmp(l4_error(), "N2: ", 4) == 0);
+	errno = 0;
+	CHECK(l4_register_wait(NULL, L4_Never) == -1 && errno == EINVAL);
+	errno = 0;
+	CHECK(L4_IsNilThread(l4_lookup(NULL)) && errno == EINVAL);
+	errno = 0;
+	CHECK(L4_IsNilThread(l4_lookup_wait(NULL, L4_Never)) && errno == EINVAL);
+	errno = 0;
+	CHECK(l4_list(NULL, name, &thread) == -1 && errno == EINVAL);
+	errno = 0;
+	CHECK(l4_list("", NULL, &thread) == -1 && errno == EFAULT && strncmp(l4_error(), "C12: ", 5) == 0);
+	errno = 0;
+	CHECK(l4_list("", name, NULL) == -1 && errno == EFAULT);
+	errno = 0;
+	CHECK(l4_connect(NULL, 1, 1) == -1 && errno == EFAULT && strncmp(l4_error(), "C12: ", 5) == 0);
+	errno = 0;
+	CHECK(l4_connect_wait(NULL, 1, 1, 1, L4_Never) == -1 && errno == EFAULT);
+	errno = 0;
+	CHECK(l4_serve(NULL, NULL, NULL) == -1 && errno == EFAULT);
+}
+
 int main(void)
 {
 	check_ids();
@@ -247,6 +276,7 @@ int main(void)
 	check_messages();
 	check_spoilt();
 	check_buffers();
+	check_nulls();
 	CHECK(L4_IpcFailed(L4_Send(L4_GlobalId(1, 1))) && L4_ErrorCode() == 0x43010);
 	CHECK(strcmp(l4_error(), "C1: the thread is not connected") == 0);
 	printf("%d\n", checks);

@@ -50,6 +50,11 @@ if __name__ == "__main__":
         if len(sys.argv) == 3 and sys.argv[2] in roles:
             roles[sys.argv[2]](sys.argv[1])
         else:
-            sys.exit(__doc__)
+            raise ValueError(f"the words name no role\n\n{__doc__}")
+    except KeyboardInterrupt:
+        sys.exit(130)
+    except ValueError as wrong:
+        print(f"cancel: {wrong}", file=sys.stderr)
+        sys.exit(2)
     except (L4Error, OSError) as end:
         sys.exit(f"cancel: {end}")

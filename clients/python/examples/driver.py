@@ -76,7 +76,10 @@ def serve(directory, path):
 def ask(directory):
     with Thread(directory, 62) as thread:
         driver = Names(thread).wait_for("driver", 10)
-        print(thread.call(driver, Message(1), buffers=[MOST_BYTES]).strings[0].decode())
+        answer = thread.call(driver, Message(1), buffers=[MOST_BYTES])
+        if not answer.strings:
+            sys.exit(f"driver: {answer.sender} answered without a line: it is another driver")
+        print(answer.strings[0].decode(errors="replace"))
 
 
 if __name__ == "__main__":
@@ -86,6 +89,11 @@ if __name__ == "__main__":
         elif sys.argv[2:] == ["ask"]:
             ask(sys.argv[1])
         else:
-            sys.exit(__doc__)
+            raise ValueError(f"the words name no role\n\n{__doc__}")
+    except KeyboardInterrupt:
+        sys.exit(130)
+    except ValueError as wrong:
+        print(f"driver: {wrong}", file=sys.stderr)
+        sys.exit(2)
     except (L4Error, OSError) as end:
         sys.exit(f"driver: {end}")

@@ -43,6 +43,11 @@ if __name__ == "__main__":
         elif sys.argv[2:3] == ["ask"] and len(sys.argv) == 4:
             ask(sys.argv[1], int(sys.argv[3]))
         else:
-            sys.exit(__doc__)
+            raise ValueError(f"the words name no role\n\n{__doc__}")
+    except KeyboardInterrupt:
+        sys.exit(130)
+    except ValueError as wrong:
+        print(f"gateway: {wrong}", file=sys.stderr)
+        sys.exit(2)
     except (L4Error, OSError) as end:
         sys.exit(f"gateway: {end}")

@@ -53,6 +53,11 @@ if __name__ == "__main__":
         elif sys.argv[2:3] == ["fault"] and len(sys.argv) > 3:
             fault(sys.argv[1], [int(word, 0) for word in sys.argv[3:]])
         else:
-            sys.exit(__doc__)
+            raise ValueError(f"the words name no role\n\n{__doc__}")
+    except KeyboardInterrupt:
+        sys.exit(130)
+    except ValueError as wrong:
+        print(f"pager: {wrong}", file=sys.stderr)
+        sys.exit(2)
     except (L4Error, OSError) as end:
         sys.exit(f"pager: {end}")

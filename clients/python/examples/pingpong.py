@@ -19,6 +19,8 @@ def serve(directory):
 
 
 def ask(directory, count=1000):
+    if count < 1:
+        raise ValueError("COUNT is at least 1")
     with Thread(directory, 11) as thread:
         server = Names(thread).wait_for("pingpong", 10)
         began = time.perf_counter()
@@ -37,6 +39,11 @@ if __name__ == "__main__":
         elif sys.argv[2:3] == ["ask"] and len(sys.argv) <= 4:
             ask(sys.argv[1], *map(int, sys.argv[3:]))
         else:
-            sys.exit(__doc__)
+            raise ValueError(f"the words name no role\n\n{__doc__}")
+    except KeyboardInterrupt:
+        sys.exit(130)
+    except ValueError as wrong:
+        print(f"pingpong: {wrong}", file=sys.stderr)
+        sys.exit(2)
     except (L4Error, OSError) as end:
         sys.exit(f"pingpong: {end}")

@@ -28,6 +28,8 @@ def serve(directory):
 
 
 def send(directory, count):
+    if not 0 <= count <= ROOM:
+        raise ValueError(f"COUNT is not from 0 to {ROOM}")
     text = (b"rendezvous " * (count // 11 + 1))[:count]
     with Thread(directory, 31) as thread:
         server = Names(thread).wait_for("copy", 10)
@@ -43,6 +45,11 @@ if __name__ == "__main__":
         elif sys.argv[2:3] == ["send"] and len(sys.argv) == 4:
             send(sys.argv[1], int(sys.argv[3]))
         else:
-            sys.exit(__doc__)
+            raise ValueError(f"the words name no role\n\n{__doc__}")
+    except KeyboardInterrupt:
+        sys.exit(130)
+    except ValueError as wrong:
+        print(f"string_copy: {wrong}", file=sys.stderr)
+        sys.exit(2)
     except (L4Error, OSError) as end:
         sys.exit(f"string_copy: {end}")

@@ -1,6 +1,7 @@
 """Threads whose calls are coroutines, against servers that a test gives."""
 
 import asyncio
+import contextlib
 import threading
 import time
 import unittest
@@ -15,6 +16,13 @@ from .test_connecting import Ender, Listener, patience
 FIRST = ThreadId.of(1, 1)
 IN_255 = 0xFF00000001
 AGAIN = bytes.fromhex("00000009 81 0000000200000002")
+
+
+def tasks_that_know(how_often_they_are_cancelled):
+    """Tasks as those of this Python, or as those of before Python 3.11."""
+    if how_often_they_are_cancelled:
+        return contextlib.nullcontext()
+    return unittest.mock.patch("l4ipc.aio._cancels_of", lambda task: None)
 
 
 async def ticks(turns):
@@ -66,7 +74,8 @@ class Aio(unittest.TestCase):
                 return thread.is_closed
 
             self.assertEqual(scripted(answer, does)[0], closed)
-        for does in (lambda it: it.wait("1s"), lambda it: it.call("1.1"), lambda it: it.send(FIRST, 7), lambda it: it.wait(buffers=[b"x"])):
+        for does in (lambda it: it.wait("1s"), lambda it: it.call("1.1"), lambda it: it.send(FIRST, 7), lambda it: it.wait(buffers=[b"x"]),
+                     lambda it: it.send(0, Message(1)), lambda it: it.call(0), lambda it: it.call(0, wait_for=1), lambda it: it.reply_wait(0, Message(1))):
             came, frames = scripted(b"", does)
             self.assertIsInstance(came, (TypeError, ValueError))
             self.assertEqual([frame[4] for frame in frames], [1, 4])
@@ -197,6 +206,9 @@ class Aio(unittest.TestCase):
         async def does(thread):
             with self.assertRaises(asyncio.TimeoutError):
                 await asyncio.wait_for(thread.wait(), 0.05)
+            with self.assertRaises(l4ipc.Closed) as caught:
+                await thread.wait()
+            self.assertIn("no call is made: a call that was cancelled has closed it, for want of a canceller=", str(caught.exception))
             return thread.is_closed
 
         self.assertEqual(scripted(b"", does)[0], True)
@@ -291,6 +303,48 @@ class Aio(unittest.TestCase):
             self.assertEqual(told[-1], l4ipc.Closed)
         _, frames = scripted(WORDS + FAULT, lambda it: it.serve(answer))
         self.assertEqual([int.from_bytes(frame[33:41], "big") >> 16 for frame in frames[1:]], [0, 4])
+
+    def test_a_server_whose_function_lets_a_cancel_through(self):
+        async def of_another_task(request):
+            sleeps = asyncio.ensure_future(asyncio.sleep(10))
+            asyncio.get_running_loop().call_soon(sleeps.cancel)
+            await sleeps
+
+        async def of_itself(request):
+            raise asyncio.CancelledError
+
+        def at_once(request):
+            raise asyncio.CancelledError
+
+        for knows in (hasattr(asyncio.Task, "cancelling"), False):
+            for function in (of_another_task, of_itself, at_once):
+                told = []
+                with self.subTest(function.__name__, knows=knows), tasks_that_know(knows):
+                    came, frames = scripted(2 * WORDS + FAULT, lambda it: it.serve(function, tell=lambda error, request: told.append(type(error))))
+                    self.assertIsInstance(came, l4ipc.Fault)
+                    self.assertEqual(told, [RuntimeError, RuntimeError])
+                    self.assertEqual([int.from_bytes(frame[33:41], "big") >> 16 for frame in frames[1:]], [0, FUNCTION_FAILED, FUNCTION_FAILED])
+
+    def test_a_server_that_is_cancelled_within_its_function(self):
+        async def does(thread):
+            ends = []
+
+            async def function(request):
+                try:
+                    await asyncio.sleep(10)
+                finally:
+                    await asyncio.sleep(0)
+                    ends.append("ended")
+
+            serving = asyncio.ensure_future(thread.serve(function))
+            await asyncio.sleep(0.05)
+            serving.cancel()
+            await asyncio.wait([serving])
+            return serving.cancelled(), ends
+
+        for knows in (hasattr(asyncio.Task, "cancelling"), False):
+            with self.subTest(knows=knows), tasks_that_know(knows):
+                self.assertEqual(scripted(WORDS, does)[0], (True, ["ended"]))
 
     def test_names(self):
         found = failed(0x3) + outcome(1, IN_255, words=(FIRST,))

@@ -1,17 +1,21 @@
 """Wrong arguments: a TypeError or a ValueError that begins with the argument's name, and nothing is sent."""
 
 import array
+import copy
+import pickle
 import unittest
 
 import l4ipc
-from l4ipc import ANYTHREAD, Message, Thread, ThreadId, names, protocol
+from l4ipc import ANYTHREAD, Message, Thread, ThreadId, connecting, names, protocol
 
-from .scripted import WORDS, said, scripted
+from .scripted import DONE, FAILED, WORDS, said, scripted
 
 FIRST = ThreadId.of(1, 1)
 BAD_IDS = ("1.1", None, 1.5, [1], -1, 1 << 64)
+NOBODY = (0, ThreadId(0))
 BAD_NAMES = ("", "a b", "a\n", "\u00e9", "n" * 65)
-BAD_SECONDS = ("1s", b"1", [1], -1, float("nan"), object())
+BAD_SECONDS = ("1s", b"1", [1], -1, float("nan"), float("-inf"), 10**400, object())
+ENDLESS = (float("inf"), 1e300, 10**10)
 
 
 def sends(message):
@@ -28,8 +32,19 @@ ROWS = [
     *(("to", lambda it, bad=bad: it.call(bad)) for bad in BAD_IDS),
     *(("to", lambda it, bad=bad: it.reply_wait(bad)) for bad in BAD_IDS),
     *(("to", lambda it, bad=bad: it.ipc(bad, ANYTHREAD)) for bad in BAD_IDS),
+    *(("to", lambda it, bad=bad: it.begin_call(bad)) for bad in ("kv", *BAD_IDS)),
+    *(("to", lambda it, bad=bad: it.begin_reply_wait(bad)) for bad in BAD_IDS),
+    *(("to: nilthread is no partner of a send", lambda it, bad=bad: it.send(bad, Message(1, [5], [b"lost"]))) for bad in NOBODY),
+    *(("to: nilthread is no partner of a send", lambda it, bad=bad: it.send(bad, Message(1), wait_for=None)) for bad in NOBODY),
+    *(("to: nilthread is no partner of a call", lambda it, bad=bad: it.call(bad)) for bad in NOBODY),
+    *(("to: nilthread is no partner of a call", lambda it, bad=bad: it.call(bad, wait_for=1)) for bad in NOBODY),
+    *(("to: nilthread is no partner of a call", lambda it, bad=bad: it.begin_call(bad, Message(1))) for bad in NOBODY),
+    *(("to: nilthread is no thread to answer: wait receives alone", lambda it, bad=bad: it.reply_wait(bad, Message(1))) for bad in NOBODY),
+    *(("to: nilthread is no thread to answer: wait receives alone", lambda it, bad=bad: it.begin_reply_wait(bad, Message(1))) for bad in NOBODY),
     *(("sender", lambda it, bad=bad: it.receive(bad)) for bad in (*BAD_IDS, 0)),
     *(("from_specifier", lambda it, bad=bad: it.ipc(FIRST, bad)) for bad in BAD_IDS),
+    *(("send", lambda it, bad=bad: it.exchange_registers(FIRST, bad)) for bad in (5, "1", None)),
+    *(("receive", lambda it, bad=bad: it.exchange_registers(FIRST, receive=bad)) for bad in (5, "1", None)),
     *(("dest", lambda it, bad=bad: it.exchange_registers(bad)) for bad in BAD_IDS),
     *(("originator", sends(Message(originator=bad))) for bad in ("1.1", 1.5, [1], -1, 1 << 64, 6, 6 << 32)),
     *(("timeout", lambda it, bad=bad: it.send(FIRST, timeout=bad)) for bad in BAD_SECONDS),
@@ -63,8 +78,11 @@ ROWS = [
     ("thread", lambda it: names.Names("1.1")),
     ("thread", lambda it: names.lookup(7, "x")),
     ("server", lambda it: names.Names(it, "255.1")),
-    ("timeout", lambda it: names.Names(it, timeout="1s")),
-    ("seconds", lambda it: names.Names(it).wait_for("x", "1s")),
+    *(("timeout", lambda it, bad=bad: names.Names(it, timeout=bad)) for bad in BAD_SECONDS),
+    *(("seconds", lambda it, bad=bad: names.Names(it).wait_for("x", bad)) for bad in BAD_SECONDS),
+    *(("seconds", lambda it, bad=bad: names.Names(it).wait_to_register("x", bad)) for bad in BAD_SECONDS),
+    *(("wait_for", lambda it, bad=bad: Thread("/", 1, wait_for=bad)) for bad in BAD_SECONDS),
+    *(("connect_timeout", lambda it, bad=bad: Thread("/", 1, connect_timeout=bad)) for bad in BAD_SECONDS),
 ]
 
 
@@ -80,12 +98,23 @@ class Arguments(unittest.TestCase):
             with self.assertRaises((TypeError, ValueError)) as caught:
                 does(thread)
             text = str(caught.exception)
-            self.assertTrue(text.startswith((f"{name}:", f"{name},")), f"{name}: {text}")
+            self.assertTrue(text.startswith((f"{name}:", f"{name},")) or text == name, f"{name}: {text}")
             self.assertLess(len(text), 300)
         self.assertEqual(len(said(server)), 1)
         self.assertEqual(thread.wait().words, (7, 8))
         thread.close()
         server.close()
+
+    def test_seconds_without_end(self):
+        for seconds in ENDLESS:
+            place = connecting.place_of("/nope", 2, 1, 1, seconds, seconds)
+            self.assertEqual((place.wait_for, place.connect_timeout), (None, None))
+            thread, server = scripted(FAILED + WORDS + FAILED + DONE)
+            self.assertEqual(thread.call(FIRST, send_timeout=seconds, receive_timeout=seconds, wait_for=seconds).words, (7, 8))
+            thread.send(FIRST, timeout=seconds, wait_for=seconds)
+            names.Names(thread, timeout=seconds)
+            thread.close()
+            server.close()
 
     def test_threads(self):
         rows = [
@@ -98,6 +127,12 @@ class Arguments(unittest.TestCase):
             with self.subTest(name), self.assertRaises((TypeError, ValueError)) as caught:
                 Thread(*given)
             self.assertTrue(str(caught.exception).startswith(f"{name}:"), str(caught.exception))
+        for word in ("3.1", "3", None, 1.5, b"3"):
+            with self.assertRaises(TypeError) as caught:
+                ThreadId(word)
+            self.assertIn("word: a thread id, as ThreadId.of(2, 1), is wanted, and not", str(caught.exception))
+        for thread in (ThreadId.of(3, 1), ThreadId(), ANYTHREAD):
+            self.assertEqual((ThreadId(int(thread)), pickle.loads(pickle.dumps(thread)), type(copy.copy(thread))), (thread, thread, ThreadId))
         for given in (("1", 1), (1, None), (-1, 1), (1, 1 << 32)):
             with self.assertRaises((TypeError, ValueError)):
                 ThreadId.of(*given)
@@ -108,6 +143,7 @@ class Arguments(unittest.TestCase):
             (waits([b"AB"]), "buffers[0]: bytes cannot be written; a buffer is a size or a bytearray"),
             (lambda it: it.call(""), "to: '' is no name; a name has 1 to 64 bytes of printable ASCII without the space"),
             (lambda it: names.Names(it).lookup("a b"), "name: 'a b' is no name; a name has 1 to 64 bytes of printable ASCII without the space"),
+            (lambda it: it.begin_call("kv"), "to: begin_call takes no name, as 'kv' is: Names(thread).lookup finds the thread id that it takes"),
             (lambda it: it.send("1.1"), "to: a thread id, as ThreadId.of(2, 1), is wanted, and not '1.1' (str)"),
             (sends(Message(0, [1.5])), "words[0]: an int of 64 bits is wanted, and not 1.5 (float)"),
             (sends(Message(0, [], ["abc"])), "strings[0]: bytes are wanted, and not 'abc' (str)"),

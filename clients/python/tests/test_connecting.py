@@ -67,7 +67,33 @@ class Listener:
         shutil.rmtree(self.folder)
 
 
+class Interrupts(unittest.TestCase):
+    def test_what_closed_the_thread_is_told(self):
+        thread, server = scripted(b"", ends=False)
+        with thread, server:
+            with unittest.mock.patch.object(thread, "_hear", side_effect=KeyboardInterrupt), self.assertRaises(KeyboardInterrupt):
+                thread.wait()
+            with self.assertRaises(l4ipc.Closed) as caught:
+                thread.wait()
+        self.assertIn("no call is made: a call that was interrupted has closed it", str(caught.exception))
+
+
+class Overflows(unittest.TestCase):
+    def test_what_is_said_where_no_buffers_were_given(self):
+        for buffers, text in (((), "(error 0x9): a message with strings, and no buffers= were given; nothing was received"),
+                              ([3], "(error 0x9): a string did not fit the buffers, behind 0 bytes that did; nothing was received")):
+            thread, server = scripted(failed(0x9))
+            with thread, server, self.assertRaises(l4ipc.Overflow) as caught:
+                thread.wait(buffers=buffers)
+            self.assertIn(text, str(caught.exception))
+
+
 class Connecting(unittest.TestCase):
+    def test_a_wait_without_end(self):
+        for seconds in (None, float("inf"), 1e300):
+            with Listener([WELCOME], after=0.03) as listener:
+                Thread(listener.folder, 2, wait_for=seconds, connect_timeout=seconds).close()
+
     def fails(self, kind, folder, *texts, **more):
         with self.assertRaises(kind) as caught:
             Thread(folder, 2, **more)
@@ -87,7 +113,8 @@ class Connecting(unittest.TestCase):
     def test_nobody_listens(self):
         with Listener() as there:
             there.listens().listener.close()
-            self.fails(ConnectionRefusedError, there.folder, there.path, "has ended", "has had its --connections")
+            self.fails(ConnectionRefusedError, there.folder, there.path, "has ended", "--replace", "has had its --connections", "was not waited for")
+            self.fails(ConnectionRefusedError, there.folder, "after waiting for 0.1 seconds", wait_for=0.1)
 
     def test_who_drops_a_thread_ends_its_connection(self):
         thread, server = scripted(b"", ends=False)
@@ -118,8 +145,9 @@ class Connecting(unittest.TestCase):
         with Listener([REFUSED], ends=True) as there:
             error = self.fails(l4ipc.Refused, there.listens().folder, "number 2", there.path, "K2", "is live")
             self.assertEqual(error.number, 2)
-            self.assertIn("is live, and it was not waited for (wait_for=)", str(error))
-        for number, text in ((2, "K2: a thread of that number is live, after waiting for 1 second"), (4, "K4: the server has no memory")):
+            self.assertIn("is live, and it was not waited for (wait_for=); end the program that has it, or take another number", str(error))
+        for number, text in ((2, "K2: a thread of that number is live, after waiting for 1 second; end the program that has it, or take another number"),
+                             (4, "K4: the server has no memory")):
             error = connecting.explained(l4ipc.Refused(number), connecting.Place("/d/space1", 2, wait_for=1))
             self.assertEqual(str(error), f"number 2 at /d/space1: refused {text}")
 

@@ -86,6 +86,7 @@ class Serve(unittest.TestCase):
         self.assertEqual([record.levelname for record in logged.records], ["WARNING"] * 3)
         for text, wanted in zip(logged.output, ("nothing was received", "1.1 was not answered", "the connection has ended")):
             self.assertIn(wanted, text)
+        self.assertIn("function: a Message or None as its answer is wanted, and not 42 (int)", logged_by(self, WORDS, lambda request: 42).output[0])
         self.assertIn("ZeroDivisionError", logged_by(self, WORDS, lambda request: 1 // 0).output[0])
 
     def test_a_late_answer_of_a_name_server_is_no_request(self):

@@ -4,6 +4,7 @@ import contextlib
 import io
 import json
 import os
+import pty
 import shutil
 import socket
 import subprocess
@@ -170,7 +171,34 @@ class Who(unittest.TestCase):
         self.server.tells(f"1.1  space 1  socket {inode}")
         status, output, error = printed(self.folder)
         self.assertEqual((status, error, output.count("\n")), (0, "", 1))
-        self.assertTrue(output.rstrip("\n").isprintable() and output.endswith("..\n"), output)
+        self.assertTrue(output.rstrip("\n").isprintable() and output.endswith(f" {'x' * 200}\n"), output)
+
+    def ended_with(self, output, **environment):
+        """How the program ends whose standard output this is, and what it tells."""
+        words = [sys.executable, "-m", "l4ipc.who", self.folder]
+        ran = subprocess.run(words, stdout=output, stderr=subprocess.PIPE, text=True, env={**os.environ, **environment})
+        return ran.returncode, ran.stderr
+
+    def test_standard_output_that_takes_nothing(self):
+        _, inode, _ = self.client("x" * 200)
+        self.server.tells(f"1.1  space 1  socket {inode}")
+        with open("/dev/full", "w") as full:
+            self.assertEqual(self.ended_with(full), (1, "l4ipc.who: standard output: No space left on device\n"))
+        reader, writer = os.pipe()
+        os.close(reader)
+        self.assertEqual(self.ended_with(writer), (1, "l4ipc.who: standard output: Broken pipe\n"))
+        os.close(writer)
+
+    def test_a_terminal_has_as_much_of_a_line_as_it_shows(self):
+        _, inode, _ = self.client("x" * 200)
+        self.server.tells(f"1.1  space 1  socket {inode}")
+        for columns in (60, 132):
+            ours, theirs = pty.openpty()
+            self.assertEqual(self.ended_with(theirs, COLUMNS=str(columns)), (0, ""))
+            os.close(theirs)
+            line = os.read(ours, 4096).decode()
+            os.close(ours)
+            self.assertEqual((len(line), line[-4:]), (columns + 2, "..\r\n"), line)
 
     def test_no_threads(self):
         self.server.tells()

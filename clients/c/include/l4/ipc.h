@@ -107,7 +107,8 @@ static inline L4_MsgTag_t L4_ReplyWait(L4_ThreadId_t to, L4_ThreadId_t *from)
 	return L4_ReplyWait_Timeout(to, L4_Never, from);
 }
 
-/* L4_Call, made again for so long as no thread of this id is live. */
+/* L4_Call, made again for so long as no thread of this id is live. Of L4_nilthread, as l4_lookup answers it where it fails,
+ * L4_Call would leave out both phases, and succeed; this sends nothing, and fails with the ErrorCode 0x4 and errno EINVAL. */
 L4_MsgTag_t l4_call_wait(L4_ThreadId_t to, L4_Time_t patience);
 
 /* A receive from oneself, which ends by its timeout or a cancel. */

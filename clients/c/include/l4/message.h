@@ -157,7 +157,8 @@ void L4_MsgBufferClear(L4_MsgBuffer_t *b);
 void L4_MsgBufferAppendSimpleRcvString(L4_MsgBuffer_t *b, L4_StringItem_t s);
 void L4_MsgBufferAppendRcvString(L4_MsgBuffer_t *b, const L4_StringItem_t *s);
 
-/* The acceptor of all receives from now on, with the buffers as they stand in BR1 on, or with these. */
+/* The acceptor of all receives from now on, with the buffers as they stand in BR1 on, or with these; also of those after another
+ * l4_connect of the calling thread. */
 void L4_Accept(L4_Acceptor_t a);
 void L4_AcceptStrings(L4_Acceptor_t a, const L4_MsgBuffer_t *b);
 L4_Acceptor_t L4_Accepted(void);

@@ -11,15 +11,16 @@ L4_BEGIN_C_
 /* The bytes of the longest name. Names are printable ASCII without the space. */
 enum { L4_NAME_BYTES = 64 };
 
-/* From now on the name is that of the calling thread, until that ends. 0, or -1 with errno: EINVAL for what is no name,
- * EADDRINUSE where another live thread has it, ENOSPC, ENOMEM, ESRCH where there is no name server, EIO where the call
- * of it failed, or that of a lost connection. */
+/* From now on the name is that of the calling thread, until that ends. 0, or -1 with errno: EINVAL for what is no name, as a
+ * null pointer, EADDRINUSE where another live thread has it, ENOSPC, ENOMEM, ESRCH where there is no name server, EIO where
+ * the call of it failed, or that of a lost connection. */
 int l4_register(const char *name);
 
 /* The same, asked again for so long as there is no name server, or it does not answer. */
 int l4_register_wait(const char *name, L4_Time_t patience);
 
-/* The live thread that has the name; L4_nilthread with errno ENOENT where there is none, or as l4_register has it. */
+/* The live thread that has the name; L4_nilthread with errno ENOENT where there is none, or as l4_register has it. Look with
+ * L4_IsNilThread before you call it: L4_Call and L4_Send leave a phase with L4_nilthread out, so they succeed. */
 L4_ThreadId_t l4_lookup(const char *name);
 
 /* The same, asked again for so long as no live thread has the name, or there is no name server, or it does not answer: then
@@ -27,7 +28,8 @@ L4_ThreadId_t l4_lookup(const char *name);
 L4_ThreadId_t l4_lookup_wait(const char *name, L4_Time_t patience);
 
 /* The first name behind `after`, in the order of bytes, and its thread; from "" on, all of them one by one. 1, or 0
- * where there is no further one, or -1 with errno as l4_register has it. name ends with a zero byte. */
+ * where there is no further one, or -1 with errno as l4_register has it, or EFAULT where name or thread is null. name ends
+ * with a zero byte. */
 int l4_list(const char *after, char name[L4_NAME_BYTES + 1], L4_ThreadId_t *thread);
 
 /* Asks this thread as name server, in place of the first live one of 255.1 to 255.63. L4_nilthread: that one again. */

@@ -25,7 +25,8 @@ typedef void (*l4_trouble_t)(L4_ThreadId_t to, void *data);
  * of as trouble. Where trouble is null a line on standard error tells it. The first 8 names that the thread got by
  * l4_register are registered again every five seconds, so that a name server that was started again knows them; where that
  * fails it is tried again each second, and told of once. A receive that can never be made (buffers that
- * are spoilt) ends it too, with -1; one that the server has no room for is tried again, ten times a second. */
+ * are spoilt) ends it too, with -1; one that the server has no room for is tried again, ten times a second. Where answer is
+ * null it is -1 with EFAULT at once. */
 int l4_serve(l4_answer_t answer, l4_trouble_t trouble, void *data);
 
 L4_END_C_

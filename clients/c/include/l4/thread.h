@@ -62,9 +62,10 @@ static inline L4_Bool_t L4_IsGlobalId(L4_ThreadId_t t)
 
 /* Makes the calling thread the L4 thread of this number (1 to 1023) in this space (1 to 64) of the server whose folder
  * is dir: it connects to dir/spaceN. 0, or -1 with errno: that of connect(2) or socket(2); EISCONN where the thread is
- * connected; EINVAL, EADDRINUSE, EADDRNOTAVAIL, ENOMEM, ENOSPC for REFUSED K1 to K5; ETIMEDOUT where the server is full, or
- * answers nothing for 10 seconds; EPROTO for a FAULT or another answer. The connection, and so the L4 thread, ends with
- * the thread of the process at the latest. BR0 and VirtualSender begin as 0, whatever they were before. */
+ * connected; EFAULT where dir is null; EINVAL, EADDRINUSE, EADDRNOTAVAIL, ENOMEM, ENOSPC for REFUSED K1 to K5; ETIMEDOUT
+ * where the server is full, or answers nothing for 10 seconds; EPROTO for a FAULT or another answer. The connection, and so
+ * the L4 thread, ends with the thread of the process at the latest. VirtualSender begins as 0. The buffer registers stay:
+ * what L4_Accept and L4_AcceptStrings put there before holds for the receives of this thread, too. */
 int l4_connect(const char *dir, unsigned space, unsigned number);
 
 /* The same, and the version of the wire that is spoken: 1, which l4_connect speaks, or a later one; EINVAL for none. A server that

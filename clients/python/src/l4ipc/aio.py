@@ -8,13 +8,13 @@ same is not lost: the next `wait` that it fits answers it.
 import asyncio
 import os
 import socket
-from contextlib import suppress
+from contextlib import contextmanager, suppress
 from dataclasses import replace
 from inspect import isawaitable
-from typing import Awaitable, Callable, List, NoReturn, Optional, Sequence, Tuple, Type, TypeVar, Union
+from typing import Awaitable, Callable, Iterator, List, NoReturn, Optional, Sequence, Tuple, Type, TypeVar, Union
 
 from . import arguments, calls, connecting, frames, serving
-from .caller import Caller
+from .caller import ANSWERED, CALLED, Caller
 from .calls import NO_MESSAGE
 from .errors import RECEIVE, BadFrame, Closed, IpcError, L4Error, Timeout
 from .exchanging import Exchanged, exchange_frame, exchanged
@@ -23,7 +23,7 @@ from .names import Book, live, live_version
 from .serving import Telling
 from .steps import Answer, Ipc, Pause, Step, Steps
 from .thread import LEAST_WAIT, Partner
-from .waiting import end_of, left_until, pauses
+from .waiting import Wait, end_of, left_until, pauses
 from .words import ANYLOCALTHREAD, ANYTHREAD, NILTHREAD, ThreadId, timeouts
 
 Answering = Callable[[Received], Union[Optional[Message], Awaitable[Optional[Message]]]]
@@ -156,6 +156,8 @@ class Thread(Caller):
         """L4_Call."""
         times = calls.times_of(send_timeout, receive_timeout)
         if wait_for == 0 and not isinstance(to, str):
+            if not to:
+                raise arguments.nobody("to", to, CALLED)
             return self._message(await self._ipc(to, to, message, times, buffers))
         return self._message(await self.run(self._once_there(wait_for, to, True, message, times, buffers)))
 
@@ -163,6 +165,8 @@ class Thread(Caller):
         self, to: int, message: Message = NO_MESSAGE, timeout: Optional[float] = None, buffers: Sequence[Buffer] = ()
     ) -> Received:
         """L4_ReplyWait."""
+        if not to:
+            raise arguments.nobody("to", to, ANSWERED)
         return self._message(await self._ipc(to, ANYTHREAD, message, timeouts(0, timeout, receive_name="timeout"), buffers, True))
 
     async def serve(self, function: Answering, buffers: Sequence[Buffer] = (), tell: Telling = serving.log) -> None:
@@ -220,8 +224,7 @@ class Thread(Caller):
         if isinstance(step, Ipc):
             return await self._ipc(*step)
         if isinstance(step, Answer):
-            answer: object = step.function(step.request)
-            return await answer if isawaitable(answer) else answer
+            return await _answer_of(step)
         if isinstance(step, Pause):
             await asyncio.sleep(step.seconds)
         else:
@@ -257,7 +260,7 @@ class Thread(Caller):
     async def _ready(self, is_answer: bool = False) -> None:
         """The thread is connected: again, where the connection has ended and that is asked for. Nothing was sent yet."""
         if self._is_closed or self._connection is None:
-            raise Closed(f"{self!r}: no call is made")
+            raise self._no_call_is_made()
         if not self.reconnects or self.kept.is_busy or self._over is not None:
             return
         if self._is_lost or self._has_ended(self._connection):
@@ -293,17 +296,20 @@ class Thread(Caller):
         await self._connect(replace(self._place, wait_for=seconds))
 
     async def _connect(self, place: connecting.Place) -> None:
-        end, waiting = end_of(place.wait_for), pauses(place.wait_for)
+        end, waiting, wait = end_of(place.wait_for), pauses(place.wait_for), Wait(place.wait_for)
         while True:
             self._stays_closed()
             try:
-                connection, own = await _attempt(place, place.seconds_for_an_answer(end))
+                with _telling(wait, place):
+                    connection, own = await _attempt(place, place.seconds_for_an_answer(end))
                 break
             except (OSError, L4Error) as error:
                 pause = next(waiting, None) if connecting.passes(error) else None
                 if pause is None:
                     raise connecting.explained(error, place) from None
+                wait.goes_on(place.path, connecting.missing(error, place))
             await asyncio.sleep(pause)
+        wait.is_over(connecting.connected(own, place))
         if self._is_closed:
             connection.close()
         self._stays_closed()
@@ -315,7 +321,7 @@ class Thread(Caller):
         if self._over is not None:
             raise RuntimeError("another call of this thread is open")
         if self._is_closed or self._connection is None:
-            raise Closed(f"{self!r}: no call is made")
+            raise self._no_call_is_made()
         connection, over = self._connection, asyncio.Event()
         self._over = over
         try:
@@ -350,6 +356,7 @@ class Thread(Caller):
             is_sent = True
             return await self._hear(connection)
         except asyncio.CancelledError:
+            self._closed_by = "a call that was cancelled has closed it, for want of a canceller= that could end the call"
             if not is_sent or call is None or self._canceller is None:
                 self._close()
             else:
@@ -455,6 +462,43 @@ async def live_thread(thread: Thread, number: int, first: int = 1) -> Optional[T
     return await thread.run(live_version(number, first))
 
 
+async def _answer_of(step: Answer) -> object:
+    """What a server's function returns. A cancel that it lets through is its failure, unless it is the server's own task that is cancelled."""
+    task = asyncio.current_task()
+    before = _cancels_of(task)
+    try:
+        answer: object = step.function(step.request)
+        if not isawaitable(answer):
+            return answer
+        return await (_in_a_task_of_its_own(answer) if before is None else answer)
+    except asyncio.CancelledError as error:
+        if isinstance(error, _ServerCancelled) if before is None else (_cancels_of(task) or 0) > before:
+            raise
+        raise RuntimeError("the server's function let the CancelledError of another task through, and the server was not cancelled") from error
+
+
+def _cancels_of(task: "Optional[asyncio.Task[object]]") -> Optional[int]:
+    """How many cancels a task was asked for; ``None`` where it does not tell that, as before Python 3.11."""
+    cancelling: Optional[Callable[[], int]] = getattr(task, "cancelling", None)
+    return cancelling() if cancelling else None
+
+
+class _ServerCancelled(asyncio.CancelledError):
+    """The task of the server is cancelled, where a task does not tell that."""
+
+
+async def _in_a_task_of_its_own(answer: Awaitable[_Result]) -> _Result:
+    """The same result. A cancel of the waiting task is told by an error of its own, once the other task has ended by it."""
+    task = asyncio.ensure_future(answer)
+    try:
+        await asyncio.wait([task])
+    except asyncio.CancelledError:
+        task.cancel()
+        await asyncio.gather(task, return_exceptions=True)
+        raise _ServerCancelled from None
+    return task.result()
+
+
 async def _readable(connection: socket.socket) -> None:
     """Until bytes have come, or the end. They stay where they are, so that a call which is cancelled now loses none."""
     loop, end = asyncio.get_running_loop(), connection.fileno()
@@ -464,6 +508,20 @@ async def _readable(connection: socket.socket) -> None:
         await came
     finally:
         loop.remove_reader(end)
+
+
+@contextmanager
+def _telling(wait: Wait, place: connecting.Place) -> Iterator[None]:
+    """Meanwhile a wait that has no end tells that l4d does not answer, once it is time."""
+    patience = wait.patience()
+    if patience is None:
+        yield
+        return
+    handle = asyncio.get_running_loop().call_later(patience + 0.01, lambda: wait.goes_on(place.path, connecting.missing(socket.timeout(), place)))
+    try:
+        yield
+    finally:
+        handle.cancel()
 
 
 async def _attempt(place: connecting.Place, seconds: Optional[float]) -> Tuple[socket.socket, ThreadId]:

@@ -7,6 +7,7 @@ from typing import Callable, Optional, Sequence, TypeVar
 _Number = TypeVar("_Number", int, float)
 
 _MOST_SHOWN = 60
+_NEVER_FROM = 1e9  # seconds, which are 31 years: the system's own waits take no more than some such number
 
 
 def wanted(name: str, what: str, value: object) -> TypeError:
@@ -36,6 +37,12 @@ def thread_id(name: str, value: object) -> int:
     return integer(name, value, 0, (1 << 64) - 1, "a thread id, as ThreadId.of(2, 1), is")
 
 
+def nobody(name: str, value: object, partner: str) -> Exception:
+    """What is said of a value that is false, where the partner of a phase is wanted: nilthread is none, and its message would go nowhere."""
+    thread_id(name, value)
+    return ValueError(f"{name}: nilthread is no {partner}")
+
+
 def thread_or_nobody(name: str, value: object) -> int:
     """The word of a thread id that has a number and a version, as `ThreadId.of` makes it, or nilthread: a bare number is none."""
     word = thread_id(name, value)
@@ -48,15 +55,19 @@ def seconds(name: str, value: object) -> float:
     """A number of seconds that is not negative."""
     if isinstance(value, (str, bytes, bytearray)) or not hasattr(value, "__float__"):
         raise wanted(name, "a number of seconds, or None for never, is", value)
-    number = float(value)
+    try:
+        number = float(value)
+    except OverflowError:
+        raise ValueError(f"{name}: {shown(value)} seconds are no period") from None
     if math.isnan(number) or number < 0:
         raise ValueError(f"{name}: {shown(value)} seconds are no period")
     return number
 
 
 def seconds_or_none(name: str, value: object) -> Optional[float]:
-    """A number of seconds, or ``None`` for never."""
-    return None if value is None else seconds(name, value)
+    """A number of seconds, or ``None`` for never, which infinity and more than 31 years are, too."""
+    number = None if value is None else seconds(name, value)
+    return None if number is None or number > _NEVER_FROM else number
 
 
 def sequence(name: str, value: object, of_what: str) -> Sequence[object]:

@@ -21,6 +21,10 @@ KEEPING_TIMEOUT = 0.25
 """The same where it registers its names again: a name server that is stopped keeps a server from its clients no longer."""
 
 
+SENT_TO, CALLED, ANSWERED = "partner of a send", "partner of a call", "thread to answer: wait receives alone"
+"""What nilthread is not."""
+
+
 # The threads of this process. A child that it forks leaves them to it.
 _all: "weakref.WeakSet[Caller]" = weakref.WeakSet()
 
@@ -42,6 +46,7 @@ class Caller:
         self._is_closed = False
         self._is_lost = False
         self._is_of_parent = False
+        self._closed_by = ""
         _all.add(self)
         # (no circle: who drops a thread ends its connection at once)
         own = weakref.proxy(self)
@@ -58,6 +63,10 @@ class Caller:
     def is_closed(self) -> bool:
         """Whether the connection has ended, as far as it is known here, and is not made again."""
         return self._is_closed
+
+    def _no_call_is_made(self) -> Closed:
+        """What a call of a thread raises that is closed, or not connected."""
+        return Closed(f"{self!r}: no call is made{self._closed_by and f': {self._closed_by}'}")
 
     def _connected_as(self, own: ThreadId) -> None:
         """A connection is there, whose thread has this id."""
@@ -116,11 +125,13 @@ class Caller:
                 raise arguments.wanted("to", "a thread id, as ThreadId.of(2, 1), is", to)
             name_bytes(to, "to")
             return self._book.call(to, step, is_call, wait_for)
+        if not to:
+            raise arguments.nobody("to", to, CALLED if is_call else SENT_TO)
         return until_there(step._replace(to=to, from_specifier=to if is_call else NILTHREAD), wait_for)
 
     def _message(self, received: Optional[Received]) -> Received:
         if received is None:
-            raise ValueError("to: nilthread is no partner of a call")
+            raise ValueError(f"to: nilthread is no {CALLED}")
         return received
 
 

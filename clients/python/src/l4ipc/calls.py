@@ -27,7 +27,7 @@ class Call(NamedTuple):
     def result(self, outcome: frames.Outcome) -> Optional[Received]:
         """The message that came, or ``None`` where there is no receive phase; an `IpcError` where a phase failed."""
         if outcome.tag & FAILED:
-            of = Circumstances(self.own, ThreadId(self.to), ThreadId(self.from_specifier), self.message.lengths())
+            of = Circumstances(self.own, ThreadId(self.to), ThreadId(self.from_specifier), self.message.lengths(), self.strings is not NO_BUFFERS)
             raise ipc_error(outcome.error, outcome.told, of)
         if not self.from_specifier:
             return None

@@ -11,7 +11,7 @@ from typing import Callable, Optional, Tuple
 
 from . import arguments, frames, protocol
 from .errors import BadFrame, Closed, L4Error, Refused, fault, seconds
-from .waiting import end_of, left_until, pauses
+from .waiting import Wait, end_of, left_until, pauses
 from .words import ThreadId
 
 NUMBER_IS_TAKEN = protocol.K_NUMBER_TAKEN
@@ -28,9 +28,11 @@ PATIENCE = 1.0
 
 _MOST_READ = 65_536
 _TURNED_AWAY = "it has no memory or no worker for it, as it says on its standard error, or it ends"
+_OTHER_NUMBER = "end the program that has it, or take another number"
 _HELP = {
     errno.ENOENT: "no such path{waited}: start l4d --dir DIR with the folder DIR{spaces}",
-    errno.ECONNREFUSED: "nobody listens at that path: its l4d has ended, or the path has had its --connections (--keep-open helps)",
+    errno.ECONNREFUSED: "nobody listens at that path{waited}: its l4d has ended (start it with --replace), or the path has had its --connections"
+    " (--keep-open helps)",
     errno.EACCES: "no permission to connect: who may is in the mode of the path and of its folder",
     errno.ETIMEDOUT: "l4d does not answer: it is full (its --live and --keep-open, and its descriptors), or it is stopped",
 }
@@ -87,8 +89,10 @@ def passes(error: Exception) -> bool:
 def explained(error: Exception, place: Place) -> Exception:
     """The same error with the path, and with what helps."""
     waited = f", after waiting for {seconds(place.wait_for)}" if place.wait_for else ", and it was not waited for (wait_for=)"
+    if place.wait_for is None:
+        waited = ""
     if isinstance(error, Refused):
-        return Refused(error.number, f"number {place.number} at {place.path}", waited if passes(error) else "")
+        return Refused(error.number, f"number {place.number} at {place.path}", f"{waited}; {_OTHER_NUMBER}" if passes(error) else "")
     if isinstance(error, (Closed, ConnectionResetError, BrokenPipeError)):
         return Closed(f"l4d closed the connection at {place.path} before it answered: {_TURNED_AWAY}")
     if not isinstance(error, OSError):
@@ -98,6 +102,17 @@ def explained(error: Exception, place: Place) -> Exception:
         return OSError(errno.EINVAL, str(error), place.path)
     spaces = f", and --spaces {place.space} or more" if place.space > 1 else ""
     return OSError(number, _HELP.get(number, os.strerror(number)).format(waited=waited, spaces=spaces), place.path)
+
+
+def missing(error: Exception, place: Place) -> object:
+    """Why a thread still waits for its place, and what helps."""
+    told = explained(error, place)
+    return told.strerror if isinstance(told, OSError) else told
+
+
+def connected(own: ThreadId, place: Place) -> str:
+    """What is said of a thread that has waited for its place."""
+    return f"{own} is connected at {place.path}"
 
 
 def welcomed(answer: frames.Answer) -> ThreadId:
@@ -117,15 +132,18 @@ def error_of(answer: object, about: str = "") -> L4Error:
 
 def connect(place: Place, goes_on: Callable[[], None] = lambda: None) -> Tuple[socket.socket, ThreadId]:
     """A connection whose thread is live, and that thread. It waits as long as the place says, and while ``goes_on`` raises nothing."""
-    end, waiting = end_of(place.wait_for), pauses(place.wait_for)
+    end, waiting, wait = end_of(place.wait_for), pauses(place.wait_for), Wait(place.wait_for)
     while True:
         goes_on()
         try:
-            return _attempt(place, end_of(place.seconds_for_an_answer(end)))
+            connection, own = _attempt(place, end_of(place.seconds_for_an_answer(end)), wait)
+            wait.is_over(connected(own, place))
+            return connection, own
         except (OSError, L4Error) as error:
             pause = next(waiting, None) if passes(error) else None
             if pause is None:
                 raise explained(error, place) from None
+            wait.goes_on(place.path, missing(error, place))
         time.sleep(pause)
 
 
@@ -144,13 +162,14 @@ def end_thread(connection: socket.socket) -> None:
                     return
 
 
-def _attempt(place: Place, end: Optional[float]) -> Tuple[socket.socket, ThreadId]:
+def _attempt(place: Place, end: Optional[float], wait: Wait) -> Tuple[socket.socket, ThreadId]:
     connection = socket.socket(socket.AF_UNIX, socket.SOCK_STREAM)
     try:
         connection.settimeout(left_until(end))
-        _connect(connection, place.path, end)
+        _connect(connection, place, end, wait)
         with suppress(BrokenPipeError, ConnectionResetError):  # what an l4d says that closes the connection is still to be read
             connection.sendall(place.hello())
+        _answers(connection, place, wait)
         thread = welcomed(_read(connection, place.version, end))
         connection.settimeout(None)
         return connection, thread
@@ -159,14 +178,26 @@ def _attempt(place: Place, end: Optional[float]) -> Tuple[socket.socket, ThreadI
         raise
 
 
-def _connect(connection: socket.socket, path: str, end: Optional[float]) -> None:
+def _answers(connection: socket.socket, place: Place, wait: Wait) -> None:
+    """Waits for an answer as long as a wait that has no end tells nothing, and tells then that none comes."""
+    patience = wait.patience()
+    if patience is None:
+        return
+    poll = select.poll()
+    poll.register(connection, select.POLLIN)
+    if not poll.poll(1000 * patience):
+        wait.goes_on(place.path, missing(socket.timeout(), place))
+
+
+def _connect(connection: socket.socket, place: Place, end: Optional[float], wait: Wait) -> None:
     """Connects. Where the server takes no connection at the moment it tries again, since such a socket has nothing to wait on."""
     for pause in pauses(left_until(end)):
         try:
-            return connection.connect(path)
-        except BlockingIOError:
+            return connection.connect(place.path)
+        except BlockingIOError as error:
+            wait.goes_on(place.path, missing(error, place))
             time.sleep(pause)
-    connection.connect(path)
+    connection.connect(place.path)
 
 
 def _read(connection: socket.socket, version: int, end: Optional[float]) -> frames.Answer:

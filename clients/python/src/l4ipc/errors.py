@@ -22,12 +22,13 @@ class L4Error(Exception):
 
 @dataclass(frozen=True)
 class Circumstances:
-    """Of which call an error is: the thread, its partners, and the lengths of the strings that it sent."""
+    """Of which call an error is: the thread, its partners, the lengths of the strings that it sent, and whether it took strings."""
 
     own: ThreadId = NILTHREAD
     to: ThreadId = NILTHREAD
     from_specifier: ThreadId = NILTHREAD
     lengths: Tuple[int, ...] = ()
+    has_buffers: bool = True
 
 
 _UNKNOWN = Circumstances()
@@ -148,6 +149,8 @@ class Overflow(IpcError):
         return places[-1] if places else None
 
     def _details(self) -> str:
+        if self.string is None and not self._of.has_buffers and not self.offset:
+            return ": a message with strings, and no buffers= were given"
         if self.string is None:
             return f": a string did not fit the buffers, behind {_bytes(self.offset)} that did"
         length = self._of.lengths[self.string - 1]

@@ -29,6 +29,9 @@ class Exchanged:
 
 def exchange_frame(dest: int, send: bool, receive: bool) -> bytes:
     """The frame of ExchangeRegisters."""
+    for name, bit in (("send", send), ("receive", receive)):
+        if not isinstance(bit, bool):
+            raise arguments.wanted(name, "True or False is", bit)
     control = (CANCEL_SEND if send else 0) | (CANCEL_RECEIVE if receive else 0)
     return frames.exreg(arguments.thread_id("dest", dest), control)
 

@@ -9,7 +9,7 @@ from .errors import SEND, Circumstances, IpcError, L4Error, NoPartner, Refused, 
 from .errors import seconds as in_words
 from .message import Buffer, Message, Received
 from .steps import Ipc, Pause, Steps
-from .waiting import end_of, left_until, pauses_until
+from .waiting import TOLD_AFTER, Wait, end_of, left_until, pauses_until
 from .words import NILTHREAD, ThreadId, timeouts
 
 if TYPE_CHECKING:
@@ -150,15 +150,22 @@ class Book:
         self._timeout = arguments.seconds_or_none("timeout", timeout)
         self.server = None if server is None else ThreadId(arguments.thread_id("server", server))
 
-    def _times(self, end: Optional[float]) -> int:
-        """The timeouts of a request. Of a wait that has an end each phase has half of what is left, so that both together keep to it."""
+    def _times(self, end: Optional[float], is_wait: bool) -> int:
+        """The timeouts of a request. Of a wait that has an end each phase has half of what is left, so that both together keep to it.
+
+        Of one that has none each phase has an end all the same, so that it can be told that nobody answers.
+        """
         left, longest = left_until(end), self._timeout
+        if is_wait and left is None and longest is None:
+            longest = TOLD_AFTER
         if left is not None:
             half = max(left / 2, LEAST_TRY)
             longest = half if longest is None else min(half, longest)
         return timeouts(longest, longest)
 
-    def ask(self, label: int, name: bytes, originator: Optional[int] = None, end: Optional[float] = None) -> Steps[Received]:
+    def ask(
+        self, label: int, name: bytes, originator: Optional[int] = None, end: Optional[float] = None, is_wait: bool = False
+    ) -> Steps[Received]:
         """A request, of a wait until this moment. The name server is looked for where it is not known, and again where it has ended."""
         if self._life != self._thread.lives:
             self._life, self.server = self._thread.lives, None
@@ -171,7 +178,7 @@ class Book:
                 if self.server is None:
                     raise NoNames from None
             try:
-                answer: Received = yield Ipc(self.server, self.server, message, self._times(end), buffers)
+                answer: Received = yield Ipc(self.server, self.server, message, self._times(end, is_wait), buffers)
                 break
             except NoPartner:
                 first, self.server = self.server.version + 1, None
@@ -185,19 +192,21 @@ class Book:
             raise L4Error(f"{self.server} is no name server")
         return answer
 
-    def register(self, name: str, originator: Optional[int] = None, end: Optional[float] = None) -> Steps[ThreadId]:
+    def register(
+        self, name: str, originator: Optional[int] = None, end: Optional[float] = None, is_wait: bool = False
+    ) -> Steps[ThreadId]:
         """`Names.register`, of a wait until this moment."""
         if originator is not None:
             arguments.thread_or_nobody("originator", originator)
-        answer = yield from self.ask(REGISTER, name_bytes(name), originator, end)
+        answer = yield from self.ask(REGISTER, name_bytes(name), originator, end, is_wait)
         registered = ThreadId(answer.words[0])
         if registered == self._thread.id:
             self._thread.kept.registered(name)
         return registered
 
-    def lookup(self, name: str, end: Optional[float] = None) -> Steps[Optional[ThreadId]]:
+    def lookup(self, name: str, end: Optional[float] = None, is_wait: bool = False) -> Steps[Optional[ThreadId]]:
         """`Names.lookup`, of a wait until this moment."""
-        answer = yield from self.ask(LOOK_UP, name_bytes(name), end=end)
+        answer = yield from self.ask(LOOK_UP, name_bytes(name), end=end, is_wait=is_wait)
         found = ThreadId(answer.words[0])
         return None if found == NILTHREAD else found
 
@@ -217,39 +226,48 @@ class Book:
 
     def wait_for(self, name: str, seconds: Optional[float]) -> Steps[ThreadId]:
         """`Names.wait_for`."""
-        end = end_of(arguments.seconds_or_none("seconds", seconds))
+        limit = arguments.seconds_or_none("seconds", seconds)
+        end, wait = end_of(limit), Wait(limit)
         waiting = pauses_until(end, 1.0)
         while True:
             try:
-                found = yield from self.lookup(name, end)
+                found = yield from self.lookup(name, end, True)
                 missing = f"nobody has registered {name}"
             except NoNames as error:
                 found, missing = None, str(error)
             except Timeout as error:
                 found, missing = None, f"the name server {error.partner} does not answer"
             if found is not None:
+                wait.is_over(f"{name} is {found}")
                 return found
             pause = next(waiting, None)
             if pause is None:
                 raise _waited(missing, name, seconds) from None
+            wait.goes_on(f"the name {name}", missing)
             yield Pause(pause)
 
     def wait_to_register(self, name: str, seconds: Optional[float]) -> Steps[ThreadId]:
         """`Names.wait_to_register`."""
-        end = end_of(arguments.seconds_or_none("seconds", seconds))
+        limit = arguments.seconds_or_none("seconds", seconds)
+        end, wait = end_of(limit), Wait(limit)
         waiting = pauses_until(end, 1.0)
         while True:
             try:
-                return (yield from self.register(name, end=end))
+                registered = yield from self.register(name, end=end, is_wait=True)
+                wait.is_over(f"{name} is registered: it is {registered}")
+                return registered
             except NoNames as missing:
                 pause = next(waiting, None)
                 if pause is None:
                     missing.waited = seconds or None
                     raise
+                why = str(missing)
             except Timeout as error:
+                why = f"the name server {error.partner} does not answer"
                 pause = next(waiting, None)
                 if pause is None:
-                    raise _waited(f"the name server {error.partner} does not answer", name, seconds) from None
+                    raise _waited(why, name, seconds) from None
+            wait.goes_on(f"a name server that registers {name}", why)
             yield Pause(pause)
 
     def keep(self) -> Steps[None]:
@@ -273,10 +291,12 @@ class Book:
         """A message to who has a name. Where that one has ended the name is looked up again; nothing was sent then."""
         found, seconds = self._thread.kept.found, arguments.seconds_or_none("wait_for", wait_for)
         end, waiting = _until_there(seconds)
+        wait = Wait(seconds)
         while True:
             was_known = name in found
             try:
-                partner = found[name] if was_known else (yield from self._partner(name, end))
+                partner = found[name] if was_known else (yield from self._partner(name, end, seconds is None))
+                wait.is_over(f"{name} is {partner}")
                 received: Optional[Received] = yield step._replace(to=partner, from_specifier=partner if is_call else NILTHREAD)
                 return received
             except (NoPartner, NoNames, Unanswered) as missing:
@@ -290,11 +310,12 @@ class Book:
                 if pause is None:
                     missing.waited = wait_for or None
                     raise missing from None
+                wait.goes_on(f"the name {name}", missing)
             yield Pause(pause)
 
-    def _partner(self, name: str, end: Optional[float]) -> Steps[ThreadId]:
+    def _partner(self, name: str, end: Optional[float], is_wait: bool) -> Steps[ThreadId]:
         try:
-            partner = yield from self.lookup(name, end)
+            partner = yield from self.lookup(name, end, is_wait)
         except Timeout as error:
             raise Unanswered(self._thread.id, error.partner, name) from None
         if partner is None:

@@ -118,6 +118,8 @@ class Loop:
             return 0
         if answered is None and not isinstance(error, Refused):
             raise error
+        if not isinstance(error, Refused) and not isinstance(self.answer, Message):
+            error = arguments.wanted("function", "a Message or None as its answer is", self.answer)
         self.tell(error, answered)
         if not isinstance(error, Refused):  # what the function returned cannot be sent
             self.request, self.answer = answered, _FAILED
@@ -138,6 +140,8 @@ class Loop:
         """Registers the names of the server again. That it fails is told once."""
         try:
             yield from self.thread._keeper.keep()
+            if self.names_failed and self.tell is log:
+                _log.warning("l4ipc: registered again: %s", ", ".join(self.thread.kept.names))
             self.names_failed = False
         except Closed:
             raise

@@ -9,13 +9,16 @@ from . import arguments
 from .calls import NO_MESSAGE
 from .errors import SEND, NoPartner
 from .message import Buffer, Message, Received
-from .waiting import pauses
+from .waiting import Wait, pauses
 from .words import NILTHREAD, timeouts
 
 if TYPE_CHECKING:
     from .serving import Answering
 
 _Result = TypeVar("_Result")
+
+STARTED_AGAIN = "a server that was started again has a later version: its name, or names.live_thread, finds it"
+"""What helps who waits for a thread that is not there."""
 
 
 class Ipc(NamedTuple):
@@ -57,10 +60,12 @@ def receive(sender: int, timeout: Optional[float], buffers: Sequence[Buffer] = (
 
 def until_there(step: Ipc, wait_for: Optional[float]) -> Steps[Optional[Received]]:
     """A call, again and again while its partner is not there: a send phase without a partner has sent nothing."""
-    waiting = pauses(arguments.seconds_or_none("wait_for", wait_for))
+    seconds = arguments.seconds_or_none("wait_for", wait_for)
+    waiting, wait = pauses(seconds), Wait(seconds)
     while True:
         try:
             received: Optional[Received] = yield step
+            wait.is_over(f"{step.to} was there")
             return received
         except NoPartner as missing:
             if missing.phase != SEND:
@@ -69,4 +74,5 @@ def until_there(step: Ipc, wait_for: Optional[float]) -> Steps[Optional[Received
             if pause is None:
                 missing.waited = wait_for or None
                 raise
+            wait.goes_on(f"{missing.partner}", f"no such thread: start its program; {STARTED_AGAIN}")
         yield Pause(pause)

@@ -8,11 +8,12 @@ from dataclasses import replace
 from typing import NoReturn, Optional, Sequence, Type, TypeVar, Union
 
 from . import arguments, calls, connecting, frames, serving
-from .caller import Caller
+from .caller import ANSWERED, CALLED, SENT_TO, Caller
 from .calls import NO_MESSAGE
 from .errors import RECEIVE, BadFrame, Closed, L4Error, Timeout
 from .exchanging import Exchanged, exchange_frame, exchanged
 from .message import NO_BUFFERS, Buffer, Message, Received
+from .names import is_name
 from .serving import Answering, Telling
 from .steps import Ipc, Pause, Step, Steps
 from .words import ANYTHREAD, NILTHREAD, ThreadId, timeouts
@@ -123,6 +124,8 @@ class Thread(Caller):
         """
         times = 0 if timeout is None else timeouts(timeout, None, "timeout")
         if wait_for == 0 and not isinstance(to, str):
+            if not to:
+                raise arguments.nobody("to", to, SENT_TO)
             self._ipc(to, NILTHREAD, message, times)
         else:
             self.run(self._once_there(wait_for, to, False, message, times))
@@ -157,6 +160,8 @@ class Thread(Caller):
         """
         times = 0 if send_timeout is None and receive_timeout is None else timeouts(send_timeout, receive_timeout)
         if wait_for == 0 and not isinstance(to, str):
+            if not to:
+                raise arguments.nobody("to", to, CALLED)
             return self._ipc(to, to, message, times, buffers) or self._message(None)
         return self._message(self.run(self._once_there(wait_for, to, True, message, times, buffers)))
 
@@ -172,6 +177,8 @@ class Thread(Caller):
         Where the answer fails, the exception has the phase ``"send"``, and nothing was received: `wait` then.
         """
         times = _ANSWER_AT_ONCE if timeout is None else timeouts(0, timeout, receive_name="timeout")
+        if not to:
+            raise arguments.nobody("to", to, ANSWERED)
         return self._ipc(to, ANYTHREAD, message, times, buffers, True) or self._message(None)
 
     def serve(self, function: Answering, buffers: Sequence[Buffer] = (), tell: Telling = serving.log) -> None:
@@ -239,6 +246,8 @@ class Thread(Caller):
         self, to: int, message: Message = NO_MESSAGE, timeout: Optional[float] = None, buffers: Sequence[Buffer] = ()
     ) -> None:
         """Begins an L4_ReplyWait, as `begin_wait` does."""
+        if not to:
+            raise arguments.nobody("to", to, ANSWERED)
         self._begin_call(to, ANYTHREAD, message, timeouts(0, timeout, receive_name="timeout"), buffers, True)
 
     def begin_call(
@@ -250,6 +259,10 @@ class Thread(Caller):
         buffers: Sequence[Buffer] = (),
     ) -> None:
         """Begins an L4_Call, as `begin_wait` does."""
+        if isinstance(to, str) and is_name(to):
+            raise TypeError(f"to: begin_call takes no name, as {arguments.shown(to)} is: Names(thread).lookup finds the thread id that it takes")
+        if not to:
+            raise arguments.nobody("to", to, CALLED)
         self._begin_call(to, to, message, calls.times_of(send_timeout, receive_timeout), buffers)
 
     def is_over(self) -> bool:
@@ -281,7 +294,7 @@ class Thread(Caller):
 
     def _no_call(self) -> Exception:
         """Why there is no call that was begun."""
-        return Closed(f"{self!r}: no call is made") if self._is_closed else RuntimeError("no call was begun")
+        return self._no_call_is_made() if self._is_closed else RuntimeError("no call was begun")
 
     def _begin_call(
         self, to: int, from_specifier: int, message: Message, times: int, buffers: Sequence[Buffer], is_answer: bool = False
@@ -354,7 +367,7 @@ class Thread(Caller):
         An answer goes to who asked over the same connection: it fails where that has ended.
         """
         if self._is_closed:
-            raise Closed(f"{self!r}: no call is made")
+            raise self._no_call_is_made()
         if not self.reconnects or self.kept.is_busy or self._begun is not None:
             return
         if self._is_lost or self._has_ended():
@@ -402,7 +415,7 @@ class Thread(Caller):
             raise RuntimeError("another call of this thread is open")
         try:
             if self._is_closed:
-                raise Closed(f"{self!r}: no call is made")
+                raise self._no_call_is_made()
             if not is_plain or self._taken:
                 self._say(frame)
                 return self._hear()
@@ -422,7 +435,9 @@ class Thread(Caller):
         except (OSError, EOFError) as end:
             self._close()
             raise Closed(f"{self!r}: the connection has ended, with l4d or by it") from (None if isinstance(end, EOFError) else end)
-        except BaseException:
+        except BaseException as error:
+            if not isinstance(error, Exception):
+                self._closed_by = "a call that was interrupted has closed it"
             self._close()
             raise
         finally:

@@ -1,10 +1,40 @@
 """Waiting for what is not there yet: how long, and in which pauses."""
 
+import logging
 import time
 from typing import Iterator, Optional
 
 FIRST_PAUSE = 0.005
 LONGEST_PAUSE = 0.25
+
+TOLD_AFTER = 2.0
+"""After how many seconds a wait that has no end tells who is waited for."""
+
+_log = logging.getLogger("l4ipc")
+
+
+class Wait:
+    """A wait. One that has no end tells the logger ``l4ipc`` once who is waited for, and then that it is over."""
+
+    def __init__(self, seconds: Optional[float]) -> None:
+        self.tells_at = None if seconds is not None else time.monotonic() + TOLD_AFTER
+        self.has_told = False
+
+    def patience(self) -> Optional[float]:
+        """After how many seconds a try that nobody answers is told; ``None`` where it is not, or something was told."""
+        return None if self.has_told or self.tells_at is None else max(self.tells_at - time.monotonic(), TOLD_AFTER / 2)
+
+    def goes_on(self, who: str, why: object) -> None:
+        """Nobody is there yet."""
+        if not self.has_told and left_until(self.tells_at) == 0:
+            self.has_told = True
+            _log.warning("l4ipc: waiting for %s: %s", who, why)
+
+    def is_over(self, what: str) -> None:
+        """It has what it waited for, and tells nothing more."""
+        if self.has_told:
+            _log.warning("l4ipc: %s", what)
+        self.has_told, self.tells_at = False, None
 
 
 def left_until(end: Optional[float]) -> Optional[float]:

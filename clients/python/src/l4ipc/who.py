@@ -9,6 +9,7 @@ import enum
 import errno
 import os
 import re
+import shutil
 import socket
 import sys
 from dataclasses import dataclass
@@ -20,7 +21,7 @@ from .peers import PATIENCE, Peer, Process, holders_of, peers_of
 from .words import ThreadId
 
 MOST_SHOWN = 80
-"""How many characters of a command line are printed."""
+"""How many characters are printed of an answer that tells no threads."""
 
 _HEAD = re.compile(r"threads ([0-9]+)\n")
 _HELP = {
@@ -125,13 +126,33 @@ def _meaning(answer: str) -> str:
         return "l4d closed the connection, as it does where 8 ask at one time: ask again"
     if answer.startswith("unknown:"):
         return "this l4d is older, and does not tell its threads"
-    return f"l4d answered {_printable(answer.rstrip())}"
+    return f"l4d answered {_fitting(_printable(answer.rstrip()), MOST_SHOWN)}"
 
 
 def _printable(text: str) -> str:
-    """A text that is not long, and that a terminal shows as it is."""
-    shown = "".join(it if it.isprintable() else it.encode("unicode_escape").decode("ascii") for it in text)
-    return shown if len(shown) <= MOST_SHOWN else f"{shown[:MOST_SHOWN]}.."
+    """A text that a terminal shows as it is."""
+    return "".join(it if it.isprintable() else it.encode("unicode_escape").decode("ascii") for it in text)
+
+
+def _fitting(text: str, most: int) -> str:
+    """A text of at most so many characters, which ends with two points where more came."""
+    return text if len(text) <= most else f"{text[: max(most - 2, 0)]}.."
+
+
+def _print(lines: Sequence[str]) -> None:
+    """Prints lines, at a terminal no more of each than its width shows. An ``OSError`` where standard output takes nothing."""
+    if sys.stdout is None:
+        raise OSError(errno.EBADF, os.strerror(errno.EBADF))
+    width = shutil.get_terminal_size().columns if sys.stdout.isatty() else None
+    try:
+        for line in lines:
+            print(line if width is None else _fitting(line, width))
+        sys.stdout.flush()
+    except OSError:
+        # what Python still has of it is written at its end, and is not told of once more
+        with contextlib.suppress(OSError, ValueError):
+            os.dup2(os.open(os.devnull, os.O_WRONLY), sys.stdout.fileno())
+        raise
 
 
 def main(arguments: Optional[Sequence[str]] = None) -> int:
@@ -143,8 +164,11 @@ def main(arguments: Optional[Sequence[str]] = None) -> int:
     except (OSError, ValueError, L4Error) as error:
         print(f"l4ipc.who: {error}", file=sys.stderr)
         return 1
-    for owner in owners:
-        print(owner)
+    try:
+        _print([str(it) for it in owners])
+    except OSError as error:
+        print(f"l4ipc.who: standard output: {error.strerror}", file=sys.stderr)
+        return 1
     for why in Unknown:
         if any(it.unknown is why for it in owners):
             print(f"l4ipc.who: ?: {why.value}", file=sys.stderr)

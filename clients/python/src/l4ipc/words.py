@@ -35,6 +35,10 @@ class ThreadId(int):
 
     __slots__ = ()
 
+    def __new__(cls, word: int = 0) -> "ThreadId":
+        """The id of a word. A text, as that of ``str(thread)``, is none: `of` makes an id of a number and a version."""
+        return int.__new__(cls, word if isinstance(word, int) else arguments.thread_id("word", word))
+
     @classmethod
     def of(cls, number: int, version: int) -> "ThreadId":
         """The global id of a number and a version: 2.1 is ``ThreadId.of(2, 1)``."""

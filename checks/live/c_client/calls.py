@@ -151,6 +151,14 @@ def check_errors(programs, l4d, room):
                 line.close()
     with Server(l4d, room) as server:
         one, two = Say(programs["say"], server.dir, 1), Say(programs["say"], server.dir)
+        # what failed stays with its path beside a later call that succeeds
+        for number, line in ((7, f"connect {server.dir} 1 7 2"), (8, f"connect_wait 20000000 {server.dir} 1 8 1")):
+            want(say.ask(f"connect {nowhere} 1 2 1"), rf"^F10: .*: No such file or directory \({nowhere}/space1\)$")
+            got = say.ask(line)
+            assert got[0] == f"0 {thread_id(number):x}", got
+            want(got, rf"^F10: .*: No such file or directory \({nowhere}/space1\)$")
+            want(say.ask("lookup a"), r"^N6: .* \(a\)$")
+            say.ask("disconnect")
         want(one.ask("item -5"), "^C11: no string item")
         want(one.ask("null"), "^C12: a string or a buffer lies in memory")
         want(one.ask("nowhere"), "^C12: a string or a buffer lies in memory")

@@ -92,7 +92,8 @@ def check_names(programs, l4d, l4sh, room, start):
         want(ask(two, "lookup echo")[:2], (f"{one.thread:x}", 0))
         want(ask(two, "lookup Echo"), ("0", 2, "N7: no live thread has the name (Echo)"))
         want(ask(two, "register echo"), ("-1", 98, "REFUSED N3: another live thread has the name (echo)"))
-        want(ask(two, "register other")[:2], ("0", 0))
+        # what failed stays with its name beside a later call that succeeds
+        want(ask(two, "register other"), ("0", 0, "REFUSED N3: another live thread has the name (echo)"))
         want(ask(one, "list -")[0], f"1 echo {one.thread:x}")
         want(ask(one, "list echo")[0], f"1 other {two.thread:x}")
         want(ask(one, "list other")[0], "0 - 0")

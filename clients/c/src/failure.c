@@ -28,10 +28,15 @@ static struct failure failure_of(enum source source, char class, unsigned number
 	};
 }
 
+void l4_tell_about(struct failure *failure, const char *about)
+{
+	strcpy(failure->about, about);
+}
+
 static int tell(struct thread *thread, struct failure failure)
 {
-	if (failure.class == 'N' && thread->name[0] != 0)
-		failure.about = thread->name;
+	if (failure.class == 'N')
+		l4_tell_about(&failure, thread->name);
 	thread->last = failure;
 	thread->error_code = failure.code;
 	errno = failure.saved_errno;
@@ -56,7 +61,7 @@ int l4_lose(struct thread *thread, enum source source, char class, unsigned numb
 	thread->lost = failure_of(source, class, number, cause);
 	/* what is at fault is the server of this path; what the library says of an answer is said of the answer */
 	if (source == SERVER_FAULT || class == 'F')
-		thread->lost.about = thread->path;
+		l4_tell_about(&thread->lost, thread->path);
 	return tell(thread, thread->lost);
 }
 
@@ -123,7 +128,7 @@ static void append_number(struct text *text, const struct failure *failure)
 		append(text, ": %s", strerror(failure->saved_errno));
 	if (failure->hint != NULL)
 		append(text, " %s", failure->hint);
-	if (failure->about != NULL)
+	if (failure->about[0] != 0)
 		append(text, " (%s)", failure->about);
 }
 

@@ -58,8 +58,8 @@ struct failure {
 	uint8_t number;
 	L4_Word_t code;
 	int saved_errno;
-	/* what stands behind the text: a path or a name, or NULL */
-	const char *about;
+	/* what stands behind the text: a path or a name, or nothing. A copy, since a later call has others */
+	char about[MAX_PATH_BYTES + 1];
 	/* what that means where it happened, or NULL */
 	const char *hint;
 	/* of an outcome: the partner of the phase that failed, and which string of the message did not fit, from 1 on, or 0 */
@@ -153,7 +153,12 @@ struct thread {
 /* hidden, so that the compiler knows where it is */
 extern THREAD_LOCAL struct thread l4_thread __attribute__((visibility("hidden")));
 
-/* failure.c: each of these answers -1, and all but the first set errno. */
+/* failure.c: */
+
+/* Keeps what a failure is about: a path, or a name, which is shorter. */
+void l4_tell_about(struct failure *failure, const char *about);
+
+/* Each of these answers -1, and all but the first set errno. */
 
 /* The outcome of a call was this ErrorCode. */
 int l4_tell_outcome(struct thread *thread, L4_Word_t code, L4_ThreadId_t partner, unsigned string);

@@ -273,7 +273,8 @@ static int try_to_connect(struct thread *thread, const struct sockaddr_un *addre
 	if (status == 0)
 		return 0;
 	l4_close(thread);
-	thread->last.about = thread->lost.about = thread->path;
+	l4_tell_about(&thread->last, thread->path);
+	l4_tell_about(&thread->lost, thread->path);
 	if (is_turned_away(&thread->last))
 		thread->last.hint = thread->lost.hint = TURNED_AWAY;
 	errno = thread->last.saved_errno;

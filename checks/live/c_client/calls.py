@@ -218,7 +218,7 @@ def check_errors(programs, l4d, room):
         time.sleep(0.1)
         names = NameServer(server.path)
         assert three.ask("register echo")[0] == "0" and two.hear()[0] == f"{thread_id(3):x}"
-        want(two.ask("lookup_wait 100000 other"), r"^N7: no live thread has the name \(other\)$")
+        want(two.ask("lookup_wait 1000000 other"), r"^N7: no live thread has the name \(other\)$")
         names.end()
         # what the program put into the buffer registers stays over a connection: it is accepted once
         one.ask("disconnect")

@@ -1,5 +1,6 @@
 """Names, and the examples and servers of the C client beside each other, beside those in Python, and beside clients that do the worst."""
 
+import errno
 import os
 import re
 import select
@@ -119,7 +120,8 @@ def check_names(programs, l4d, l4sh, room, start):
         want(ask(two, "lookup echo")[1], 2)
         want(ask(two, "register echo")[0], "0")
         if hasattr(again, "process"):
-            count += stopped_look_ups(two, again.process)
+            one.connect(3)
+            count += stopped_look_ups(server, two, one, again.process)
             want(ask(two, "lookup echo")[0], f"{two.thread:x}")
         one.end()
         two.end()
@@ -128,23 +130,42 @@ def check_names(programs, l4d, l4sh, room, start):
         return count
 
 
-def stopped_look_ups(asker, process):
-    """A name server that is live and does not answer: a look up that waits keeps its limit, as its request was taken and as it is not."""
+def stopped_look_ups(server, asker, other, process):
+    """A name server that is live and does not answer: what waits for it keeps its limit, as its request was taken and as it is not, and
+    tells that. Where it answered in that wait before that nobody has the name, that is told; to another asker, which it owes no answer."""
     os.kill(process.pid, signal.SIGSTOP)
     try:
-        for _ in range(2):
+        for asked, wanted in (("lookup_wait", "0"), ("lookup_wait", "0"), ("register_wait", "-1")):
             began = time.time()
-            asker.tell("lookup_wait 1000000 echo")
-            assert select.select([asker.process.stdout], [], [], 5)[0], "a look up of 1 second has not ended after 5"
-            assert asker.hear()[1:] == (2, "N7: no live thread has the name (echo)") and time.time() - began > 0.9
-        began = time.time()
-        asker.tell("register_wait 1000000 echo")
-        assert select.select([asker.process.stdout], [], [], 5)[0], "a registration of 1 second has not ended after 5"
-        answer, number, words = asker.hear()
-        assert (answer, number) == ("-1", 5) and "255.2: timeout" in words and time.time() - began > 0.9, (answer, number, words)
+            asker.tell(f"{asked} 1000000 echo")
+            assert select.select([asker.process.stdout], [], [], 5)[0], f"{asked} of 1 second has not ended after 5"
+            answer, number, words = asker.hear()
+            assert (answer, number) == (wanted, errno.ETIMEDOUT) and time.time() - began > 0.9, (asked, answer, number, words)
+            told = r"(send|receive) phase (to|from) 255\.2: timeout \(e=1, offset 0\), the name server did not answer \(echo\)"
+            assert re.fullmatch(told, words), words
     finally:
         os.kill(process.pid, signal.SIGCONT)
-    return 3
+    assert other.ask("lookup nobody")[1] == errno.ENOENT
+    before = asked_of_names(server)
+    other.tell("lookup_wait 3000000 nobody")
+    end = time.time() + SECONDS
+    # who asks a second time was answered
+    while asked_of_names(server) < before + 2:
+        assert time.time() < end, "the name was looked up once"
+        time.sleep(0.01)
+    os.kill(process.pid, signal.SIGSTOP)
+    try:
+        assert select.select([other.process.stdout], [], [], 15)[0], "a look up of 3 seconds has not ended after 15"
+        assert other.hear() == ("0", errno.ENOENT, "N7: no live thread has the name (nobody)")
+    finally:
+        os.kill(process.pid, signal.SIGCONT)
+    return 5
+
+
+def asked_of_names(server):
+    """How many requests of a name server the trace has so far."""
+    with open(server.trace, encoding="ascii") as file:
+        return len(re.findall(r"^called \d+ \S+ 255\.", file.read(), re.MULTILINE))
 
 
 def check_names_again(programs, l4d, room, start):

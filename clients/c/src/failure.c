@@ -113,6 +113,8 @@ static void append_outcome(struct text *text, const struct failure *outcome)
 		append(text, ", string %u did not fit the receiver's buffers, and nothing was delivered", outcome->string);
 	if (outcome->hint != NULL)
 		append(text, ", %s", outcome->hint);
+	if (outcome->about[0] != 0)
+		append(text, " (%s)", outcome->about);
 }
 
 static void append_number(struct text *text, const struct failure *failure)

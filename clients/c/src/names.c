@@ -123,6 +123,24 @@ static bool is_name(const char *name)
 	return length <= L4_NAME_BYTES;
 }
 
+/* Whether the name server did not answer in time. */
+static bool is_timeout(const struct failure *failure)
+{
+	return failure->source == OUTCOME && (failure->code >> 1 & 7) == E_TIMEOUT;
+}
+
+/* The call of the server had an outcome that is an error: it did not answer in time; or it ended in midst of the call, or somebody
+ * cancelled it, which no number of the system says. */
+static void tell_of_call(struct thread *thread)
+{
+	bool is_late = is_timeout(&thread->last);
+
+	l4_tell_about(&thread->last, thread->name);
+	if (is_late)
+		thread->last.hint = "the name server did not answer";
+	errno = is_late ? ETIMEDOUT : EIO;
+}
+
 /* A request, with a buffer for the answer's name in place of the caller's buffers. */
 static int ask(enum label label, const char *name, L4_Time_t patience, struct answer *answer)
 {
@@ -142,25 +160,23 @@ static int ask(enum label label, const char *name, L4_Time_t patience, struct an
 	L4_AcceptStrings(L4_StringItemsAcceptor, &buffer);
 	status = call_live(thread, &request, answer);
 	L4_LoadBRs(0, BUFFER_REGISTERS, buffers);
-	/* the server ended in midst of the call, or somebody cancelled it: no number of the system says that */
 	if (status < 0 && thread->last.source == OUTCOME)
-		errno = EIO;
+		tell_of_call(thread);
 	if (status == 0 && answer->error != 0)
 		return l4_refuse(thread, SERVER_REFUSED, 'N', (unsigned) (answer->error < 0xff ? answer->error : 0xff));
 	return status;
 }
 
-/* Whether the name server did not answer in time. */
-static bool is_timeout(const struct failure *failure)
+/* Whether the name server answered that nobody has the name. */
+static bool is_nobody(const struct failure *failure)
 {
-	return failure->source == OUTCOME && (failure->code >> 1 & 7) == E_TIMEOUT;
+	return failure->class == 'N' && failure->number == N_NOBODY_HAS_NAME;
 }
 
 /* Whether a name may be found later, as it was not now. */
 static bool is_not_there_yet(const struct failure *failure)
 {
-	return is_timeout(failure)
-	       || (failure->class == 'N' && (failure->number == N_NO_NAME_SERVER || failure->number == N_NOBODY_HAS_NAME));
+	return is_timeout(failure) || is_nobody(failure) || (failure->class == 'N' && failure->number == N_NO_NAME_SERVER);
 }
 
 /* How long each phase of a request may take, so that both together end by this moment. */
@@ -251,12 +267,15 @@ static L4_ThreadId_t look_up(const char *name, L4_Time_t patience)
 L4_ThreadId_t l4_lookup_wait(const char *name, L4_Time_t patience)
 {
 	int64_t until = l4_end_of(patience);
+	bool is_answered = false;
 	L4_ThreadId_t found;
 
-	do
+	do {
 		found = look_up(name, half_until(until));
-	while (L4_IsNilThread(found) && is_not_there_yet(&l4_thread.last) && l4_pause(until));
-	if (L4_IsNilThread(found) && is_timeout(&l4_thread.last))
+		is_answered = is_answered || is_nobody(&l4_thread.last);
+	} while (L4_IsNilThread(found) && is_not_there_yet(&l4_thread.last) && l4_pause(until));
+	/* the last try may have had little time: a server that answered before is not to blame */
+	if (L4_IsNilThread(found) && is_answered && is_timeout(&l4_thread.last))
 		(void) l4_refuse(&l4_thread, FOUND_HERE, 'N', N_NOBODY_HAS_NAME);
 	return found;
 }

@@ -16,15 +16,17 @@ enum { L4_NAME_BYTES = 64 };
  * the call of it failed, or that of a lost connection. */
 int l4_register(const char *name);
 
-/* The same, asked again for so long as there is no name server, or it does not answer. */
+/* The same, asked again for so long as there is no name server, or it does not answer; errno is ETIMEDOUT where it did not
+ * answer the last time. */
 int l4_register_wait(const char *name, L4_Time_t patience);
 
 /* The live thread that has the name; L4_nilthread with errno ENOENT where there is none, or as l4_register has it. Look with
  * L4_IsNilThread before you call it: L4_Call and L4_Send leave a phase with L4_nilthread out, so they succeed. */
 L4_ThreadId_t l4_lookup(const char *name);
 
-/* The same, asked again for so long as no live thread has the name, or there is no name server, or it does not answer: then
- * ENOENT, too. */
+/* The same, asked again for so long as no live thread has the name, or there is no name server, or it does not answer; errno is
+ * that of the last time. Where it did not answer then, that is ENOENT if it had answered before that no live thread has the name,
+ * else ETIMEDOUT. */
 L4_ThreadId_t l4_lookup_wait(const char *name, L4_Time_t patience);
 
 /* The first name behind `after`, in the order of bytes, and its thread; from "" on, all of them one by one. 1, or 0

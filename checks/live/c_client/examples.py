@@ -341,20 +341,24 @@ def check_worst(programs, l4d, room):
 
 def check_again(programs, pages, l4d, room):
     """README's loop of a server, beside an l4d that is started again and again: the strings that it accepted once come each time."""
-    folder, process = tempfile.mkdtemp(dir=room), None
-    for word in ("one", "two"):
-        with Server(l4d, room, "--replace", folder=folder, trace=False) as server:
-            process = process or subprocess.Popen([pages["page_again"], folder], stdout=subprocess.PIPE, text=True)
-            NameServer(server.path)
-            asker = Say(programs["say"], folder, 2)
-            to = word_of_id("0x" + asker.ask("lookup_wait 20000000 echo")[0])
-            assert asker.ipc(to=to, source=to, strings=[[word.encode()]])[3] == 0 and process.stdout.readline() == f"2 {word}\n", word
-            asker.end()
-            server.kill()
-            # the folder stays
-            server.folder = tempfile.mkdtemp(dir=room)
-    process.kill()
-    process.communicate()
+    folder = tempfile.mkdtemp(dir=room)
+    process = subprocess.Popen([pages["page_again"], folder], stdout=subprocess.PIPE, text=True)
+    try:
+        for word in ("one", "two"):
+            with Server(l4d, room, "--replace", folder=folder, trace=False) as server:
+                NameServer(server.path)
+                asker = Say(programs["say"], folder, 2)
+                to = word_of_id("0x" + asker.ask("lookup_wait 20000000 echo")[0])
+                assert asker.ipc(to=to, source=to, strings=[[word.encode()]])[3] == 0, word
+                assert select.select([process.stdout], [], [], SECONDS)[0], f"the string {word} has not come to the server"
+                assert process.stdout.readline() == f"2 {word}\n", word
+                asker.end()
+                server.kill()
+                # the folder stays
+                server.folder = tempfile.mkdtemp(dir=room)
+    finally:
+        process.kill()
+        process.communicate()
     return 2
 
 

@@ -143,8 +143,12 @@ def stopped_look_ups(server, asker, other, process):
             assert (answer, number) == (wanted, errno.ETIMEDOUT) and time.time() - began > 0.9, (asked, answer, number, words)
             told = r"(send|receive) phase (to|from) 255\.2: timeout \(e=1, offset 0\), the name server did not answer \(echo\)"
             assert re.fullmatch(told, words), words
+        # the answer that was given up, of a look up of the asker's own name, is no answer to its next request
+        asker.tell("lookup nobody")
+        time.sleep(0.1)
     finally:
         os.kill(process.pid, signal.SIGCONT)
+    assert asker.hear()[:2] == ("0", errno.ENOENT)
     assert other.ask("lookup nobody")[1] == errno.ENOENT
     before = asked_of_names(server)
     other.tell("lookup_wait 3000000 nobody")
@@ -159,7 +163,7 @@ def stopped_look_ups(server, asker, other, process):
         assert other.hear() == ("0", errno.ENOENT, "N7: no live thread has the name (nobody)")
     finally:
         os.kill(process.pid, signal.SIGCONT)
-    return 5
+    return 6
 
 
 def asked_of_names(server):

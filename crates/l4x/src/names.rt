@@ -111,8 +111,8 @@ fn serve_one<I: PortRead, O: PortWrite>(
 ) -> Result<Served, Trouble> {
     match request {
         Request::Register(name) => register(alloc, client, table, name, sender),
-        Request::LookUp(name) => look_up(alloc, client, table, name),
-        Request::List(after) => list(alloc, client, table, after),
+        Request::LookUp(name) => look_up(alloc, client, table, name, sender),
+        Request::List(after) => list(alloc, client, table, after, sender),
     }
 }
 

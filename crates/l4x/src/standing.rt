@@ -30,6 +30,20 @@ pub fn standing_of<I: PortRead, O: PortWrite>(
     standing_by(answer)
 }
 
+/// The same while a request of an asker is answered, which counts as live itself: else an answer
+/// that it has given up would come to its next request, which the receive takes.
+pub fn standing_for<I: PortRead, O: PortWrite>(
+    alloc: Global,
+    client: &mut Client<I, O>,
+    thread: ThreadId,
+    asker: ThreadId,
+) -> Result<Standing, Trouble> {
+    if thread == asker {
+        return Ok(Standing::Live(None));
+    }
+    standing_of(alloc, client, thread)
+}
+
 // What the outcome of such a receive says.
 fn standing_by(answer: Answer) -> Result<Standing, Trouble> {
     let is_gone = code_of(&answer) == Some(GONE);

@@ -1,7 +1,7 @@
 //! A name is looked up, and names are listed.
 use super::{Served, refused, told};
 use crate::naming::{NameError, Reply};
-use crate::standing::{Standing, standing_of};
+use crate::standing::{Standing, standing_for};
 use crate::table::{MAX_NAMES, Name, Table};
 use crate::trouble::Trouble;
 use ipc_base::{PortRead, PortWrite};
@@ -14,11 +14,12 @@ pub(super) fn look_up<I: PortRead, O: PortWrite>(
     client: &mut Client<I, O>,
     table: &mut Table,
     name: Name,
+    asker: ThreadId,
 ) -> Result<Served, Trouble> {
     let found = table.find(name.as_slice());
     drop(name);
     match found {
-        Some(place) => tell(alloc, client, table, place),
+        Some(place) => tell(alloc, client, table, place, asker),
         None => Ok(told(ThreadId::NILTHREAD, None)),
     }
 }
@@ -29,9 +30,10 @@ fn tell<I: PortRead, O: PortWrite>(
     client: &mut Client<I, O>,
     table: &mut Table,
     place: usize,
+    asker: ThreadId,
 ) -> Result<Served, Trouble> {
     let thread = table.thread_at(place).unwrap_or(ThreadId::NILTHREAD);
-    match standing_of(alloc, client, thread)? {
+    match standing_for(alloc, client, thread, asker)? {
         Standing::Ended => {
             table.drop_at(place);
             Ok(told(ThreadId::NILTHREAD, None))
@@ -46,8 +48,9 @@ pub(super) fn list<I: PortRead, O: PortWrite>(
     client: &mut Client<I, O>,
     table: &mut Table,
     after: Vec<u8>,
+    asker: ThreadId,
 ) -> Result<Served, Trouble> {
-    let listed = list_after(alloc, client, table, after.as_slice());
+    let listed = list_after(alloc, client, table, after.as_slice(), asker);
     drop(after);
     listed
 }
@@ -57,9 +60,10 @@ fn list_after<I: PortRead, O: PortWrite>(
     client: &mut Client<I, O>,
     table: &mut Table,
     after: &[u8],
+    asker: ThreadId,
 ) -> Result<Served, Trouble> {
     for _ in 0..MAX_NAMES {
-        if let Some(served) = list_next(alloc, client, table, after)? {
+        if let Some(served) = list_next(alloc, client, table, after, asker)? {
             return Ok(served);
         }
     }
@@ -73,9 +77,10 @@ fn list_next<I: PortRead, O: PortWrite>(
     client: &mut Client<I, O>,
     table: &mut Table,
     after: &[u8],
+    asker: ThreadId,
 ) -> Result<Option<Served>, Trouble> {
     match table.after(after) {
-        Some(place) => list_at(alloc, client, table, place),
+        Some(place) => list_at(alloc, client, table, place, asker),
         None => Ok(Some(told(ThreadId::NILTHREAD, None))),
     }
 }
@@ -86,9 +91,10 @@ fn list_at<I: PortRead, O: PortWrite>(
     client: &mut Client<I, O>,
     table: &mut Table,
     place: usize,
+    asker: ThreadId,
 ) -> Result<Option<Served>, Trouble> {
     let thread = table.thread_at(place).unwrap_or(ThreadId::NILTHREAD);
-    match standing_of(alloc, client, thread)? {
+    match standing_for(alloc, client, thread, asker)? {
         Standing::Ended => {
             table.drop_at(place);
             Ok(None)

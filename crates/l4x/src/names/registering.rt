@@ -1,7 +1,7 @@
 //! A name is registered.
 use super::{Served, refused, told};
 use crate::naming::NameError;
-use crate::standing::{Standing, standing_of};
+use crate::standing::{Standing, standing_for};
 use crate::table::{Name, Table};
 use crate::trouble::Trouble;
 use ipc_base::{PortRead, PortWrite};
@@ -37,7 +37,7 @@ fn take_over<I: PortRead, O: PortWrite>(
     if holder == sender {
         return Ok(told(sender, None));
     }
-    match standing_of(alloc, client, holder)? {
+    match standing_for(alloc, client, holder, sender)? {
         Standing::Ended => {
             table.give(place, sender);
             Ok(told(sender, None))
@@ -54,7 +54,7 @@ fn add<I: PortRead, O: PortWrite>(
     name: Name,
     sender: ThreadId,
 ) -> Result<Served, Trouble> {
-    match refusal_where_full(alloc, client, table) {
+    match refusal_where_full(alloc, client, table, sender) {
         Ok(None) => Ok(put_into(table, name, sender)),
         Ok(Some(refusal)) => {
             drop(name);
@@ -81,11 +81,12 @@ fn refusal_where_full<I: PortRead, O: PortWrite>(
     alloc: Global,
     client: &mut Client<I, O>,
     table: &mut Table,
+    sender: ThreadId,
 ) -> Result<Option<Served>, Trouble> {
     if !table.is_full() {
         return Ok(None);
     }
-    let next = make_room(alloc, client, table)?;
+    let next = make_room(alloc, client, table, sender)?;
     if table.is_full() {
         return Ok(Some(refused(NameError::Full, ThreadId::NILTHREAD, next)));
     }
@@ -98,9 +99,10 @@ fn make_room<I: PortRead, O: PortWrite>(
     alloc: Global,
     client: &mut Client<I, O>,
     table: &mut Table,
+    sender: ThreadId,
 ) -> Result<Option<Received>, Trouble> {
     for place in 0..table.len() {
-        if let Some(next) = drop_ended(alloc, client, table, place)? {
+        if let Some(next) = drop_ended(alloc, client, table, place, sender)? {
             return Ok(next);
         }
     }
@@ -114,9 +116,10 @@ fn drop_ended<I: PortRead, O: PortWrite>(
     client: &mut Client<I, O>,
     table: &mut Table,
     place: usize,
+    sender: ThreadId,
 ) -> Result<Option<Option<Received>>, Trouble> {
     let thread = table.thread_at(place).unwrap_or(ThreadId::NILTHREAD);
-    match standing_of(alloc, client, thread)? {
+    match standing_for(alloc, client, thread, sender)? {
         Standing::Ended => {
             table.drop_at(place);
             Ok(Some(None))

@@ -248,7 +248,8 @@ def check_slow(l4d, l4sh):
         one, two = (Client(server.path, number) for number in (1, 2))
         load(server, one, two)
         dead = []
-        for _ in range(FOLLOWERS):
+        told = followed(l4sh, server)
+        for _ in range(FOLLOWERS - 1):
             line, first = begun(server)
             tally.same("a part comes first", first, PART)
             dead.append(line)
@@ -268,6 +269,9 @@ def check_slow(l4d, l4sh):
             text = rest_of(line)
             check("and have got less than all", 0 < len(text) < os.path.getsize(server.trace), len(text))
             line.close()
+        _, error = told.communicate(timeout=SECONDS)
+        why = "cut off, and entries are missing: they were read too slowly, or this l4d was started anew; follow again"
+        tally.same("l4sh follow says so", (told.returncode, error), (4, f"l4sh: {server.folder}/control: {why}\n"))
         tally.same("it ends well", ended(server), 0)
 
 

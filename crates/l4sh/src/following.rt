@@ -1,12 +1,12 @@
 //! The trace of a live server, in words as it comes.
-use crate::asking::{Asked, Question, ask, silent};
+use crate::asking::{Asked, Question, ask, ask_server, silent};
 use crate::live_state::live_times;
-use ipc_base::{Failures, PieceBuffer, PortRead, PortWrite, ReadPort};
+use ipc_base::{Failures, MemoryPort, PieceBuffer, PortRead, PortWrite, ReadPort};
 use ipc_client::{PatientStream, Untold};
 use ipc_lines::{LineFault, read_entry};
 use ipc_trace::{LineEnd, Part, PartLines, Stage, next_line};
 use l4sh_explain::Printable;
-use l4sh_files::Ending;
+use l4sh_files::{Ending, exit_alone};
 use l4sh_look::{Exit, Follower, selection_of, tell_entry};
 use l4sh_options::FollowOptions;
 use std::alloc::Global;
@@ -25,6 +25,8 @@ pub(crate) const BY_SERVER: u8 = 4;
 enum Stop {
     /// The service has ended.
     Over,
+    /// No more comes, and a server answers there still.
+    Cut,
     /// The connection ended within a line, or within the part.
     Gone,
     /// The last line is none of a trace: so the server says why.
@@ -125,14 +127,16 @@ pub(crate) fn follow_server<L: Ledger, R: Net, W: PortWrite>(
     };
     let follower = Follower::new(alloc, selection, times);
     match ask(rt, alloc, dir, Question::Trace) {
-        Ok(asked) => follow_asked(alloc, &asked, follower, reads, writer),
+        Ok(asked) => follow_asked(rt, alloc, dir, &asked, follower, reads, writer),
         Err(ending) => ending,
     }
 }
 
-/// Tells what a server answers that was asked for its trace.
-fn follow_asked<L: Ledger, W: PortWrite>(
+/// Tells what the server of a folder answers that was asked for its trace.
+fn follow_asked<L: Ledger, R: Net, W: PortWrite>(
+    rt: &R,
     alloc: Global,
+    dir: &str,
     asked: &Asked,
     mut follower: Follower,
     reads: Failures<L>,
@@ -148,7 +152,21 @@ fn follow_asked<L: Ledger, W: PortWrite>(
     if is_silent.load(Ordering::SeqCst) {
         return silent(alloc, asked.path.as_str(), Question::Trace);
     }
+    let stop = match stop {
+        Stop::Over if is_there(rt, alloc, dir) => Stop::Cut,
+        stop => stop,
+    };
     ending_of(alloc, asked.path.as_str(), stop, &lines.line)
+}
+
+/// Whether a server of this folder answers.
+fn is_there<R: Net>(rt: &R, alloc: Global, dir: &str) -> bool {
+    let mut answer = MemoryPort::new(alloc, &[]);
+    let ending = ask_server(rt, alloc, dir, Question::Began, &mut answer);
+    match (exit_alone(&ending), answer.output()) {
+        (Some(Exit::Done), Some(bytes)) => !bytes.is_empty(),
+        _ => false,
+    }
 }
 
 /// Tells what stands in the lines of a server.
@@ -175,6 +193,9 @@ fn ending_of(alloc: Global, path: &str, stop: Stop, line: &[u8]) -> Ending {
         Stop::By(exit) => return Ending::from(exit),
         Stop::Unread => return Ending::from(Exit::DeviceFailed),
         Stop::Gone => format!(in alloc; "l4sh: {path}: the server is gone"),
+        Stop::Cut => format!(in alloc;
+            "l4sh: {path}: cut off, and entries are missing: they were read too slowly, or this l4d was started anew; follow again"
+        ),
         Stop::Said => format!(in alloc; "l4sh: {path}: {}", Printable(line)),
     };
     match text {

@@ -249,6 +249,7 @@ def check_slow(l4d, l4sh):
         load(server, one, two)
         dead = []
         told = followed(l4sh, server)
+        told.send_signal(signal.SIGSTOP)
         for _ in range(FOLLOWERS - 1):
             line, first = begun(server)
             tally.same("a part comes first", first, PART)
@@ -269,6 +270,7 @@ def check_slow(l4d, l4sh):
             text = rest_of(line)
             check("and have got less than all", 0 < len(text) < os.path.getsize(server.trace), len(text))
             line.close()
+        told.send_signal(signal.SIGCONT)
         _, error = told.communicate(timeout=SECONDS)
         why = "cut off, and entries are missing: they were read too slowly, or this l4d was started anew; follow again"
         tally.same("l4sh follow says so", (told.returncode, error), (4, f"l4sh: {server.folder}/control: {why}\n"))

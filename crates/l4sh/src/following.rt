@@ -153,7 +153,7 @@ fn follow_asked<L: Ledger, R: Net, W: PortWrite>(
         return silent(alloc, asked.path.as_str(), Question::Trace);
     }
     let stop = match stop {
-        Stop::Over if is_there(rt, alloc, dir) => Stop::Cut,
+        Stop::Over | Stop::Gone if is_there(rt, alloc, dir) => Stop::Cut,
         stop => stop,
     };
     ending_of(alloc, asked.path.as_str(), stop, &lines.line)

@@ -213,7 +213,28 @@ def check_errors(programs, l4d, room):
         three.tell_ipc(source=ANY, buffers=[[3], [2, 2], [5]])
         want(("", 0, one.connect(4) and one.ipc(to=thread_id(3), strings=[[b"k"], [b""], [b"val", b"ue!"], [b"x"]])[6]),
              r"^send phase to 3\.1: message overflow \(e=4, offset 1\), string 3 did not fit the receiver's buffers, and nothing was delivered$")
-        want(("", 0, three.hear_ipc()[6]), r"^receive phase from any thread: message overflow \(e=4, offset 1\), a string did not fit")
+        overflow, unfit = r"message overflow \(e=4, offset {}\), ", "a string did not fit the buffers that were accepted"
+        want(("", 0, three.hear_ipc()[6]), rf"^receive phase from any thread: {overflow.format(1)}{unfit}, and nothing was received$")
+        # an answer that does not fit: the request was delivered, which is not to be sent again
+        delivered = "; what was sent was delivered, and "
+        for source, buffers, behind, wanted in ((thread_id(3), [[1]], 0, unfit + delivered + "no answer came"),
+                                                (thread_id(3), [[2], [1]], 2, unfit + delivered + "no answer came"),
+                                                (thread_id(3), None, 0, "no strings were accepted" + delivered + "no answer came"),
+                                                (thread_id(3), [], 0, "no strings were accepted" + delivered + "no answer came"),
+                                                (ANY, [[1]], 0, unfit + delivered + "nothing was received")):
+            three.tell_ipc(source=ANY)
+            one.tell_ipc(to=thread_id(3), source=source, words=(7,), buffers=buffers)
+            got = three.hear_ipc()
+            assert (got[1], got[4]) == (one.thread, "7"), got
+            want(("", 0, three.ipc(to=one.thread, strings=[[b"an"], [b"answer"]])[6]),
+                 rf"^send phase to 4\.1: {overflow.format(behind)}string {1 + (behind > 0)} did not fit the receiver's buffers, and nothing was delivered$")
+            shown = "3\\.1" if source == thread_id(3) else "any thread"
+            want(("", 0, one.hear_ipc()[6]), rf"^receive phase from {shown}: {overflow.format(behind)}{wanted}$")
+        # a receive alone
+        for buffers, wanted in ((None, "no strings were accepted"), ([], "no strings were accepted"), ([[1]], unfit)):
+            three.tell_ipc(source=one.thread, buffers=buffers)
+            one.ipc(to=thread_id(3), strings=[[b"an"]])
+            want(("", 0, three.hear_ipc()[6]), rf"^receive phase from 4\.1: {overflow.format(0)}{wanted}, and nothing was received$")
         two.tell("lookup_wait 20000000 echo")
         time.sleep(0.1)
         names = NameServer(server.path)

@@ -52,6 +52,15 @@ enum source {
 	FOUND_HERE,
 };
 
+/* Which phases a call has, with whom, and how many of BR1 on are its buffers. */
+struct phases {
+	bool sends;
+	bool receives;
+	L4_ThreadId_t to;
+	L4_ThreadId_t from;
+	size_t buffer_words;
+};
+
 struct failure {
 	enum source source;
 	char class;
@@ -62,8 +71,8 @@ struct failure {
 	char about[MAX_PATH_BYTES + 1];
 	/* what that means where it happened, or NULL */
 	const char *hint;
-	/* of an outcome: the partner of the phase that failed, and which string of the message did not fit, from 1 on, or 0 */
-	L4_ThreadId_t partner;
+	/* of an outcome: the phases of its call, and which string of the message did not fit, from 1 on, or 0 */
+	struct phases phases;
 	unsigned string;
 };
 
@@ -90,15 +99,6 @@ struct kept {
 	bool is_told;
 	/* a name server whose answer was not waited for: it may come to any receive. L4_nilthread for none */
 	L4_ThreadId_t owing;
-};
-
-/* Which phases a call has, with whom, and how many of BR1 on are its buffers. */
-struct phases {
-	bool sends;
-	bool receives;
-	L4_ThreadId_t to;
-	L4_ThreadId_t from;
-	size_t buffer_words;
 };
 
 /* A thread of the process: its virtual registers and its connection. */
@@ -161,7 +161,7 @@ void l4_tell_about(struct failure *failure, const char *about);
 /* Each of these answers -1, and all but the first set errno. */
 
 /* The outcome of a call was this ErrorCode. */
-int l4_tell_outcome(struct thread *thread, L4_Word_t code, L4_ThreadId_t partner, unsigned string);
+int l4_tell_outcome(struct thread *thread, L4_Word_t code, const struct phases *phases, unsigned string);
 /* A refusal of the server, or of the library before anything was sent: the connection stays. */
 int l4_refuse(struct thread *thread, enum source source, char class, unsigned number);
 /* A fault told by the server or found by the library: the connection is closed. errno is cause, or if that is 0 the one

@@ -97,8 +97,10 @@ L4_MsgTag_t l4_ipc_end(L4_ThreadId_t *from)
 /* What l4_call_wait answers for L4_nilthread. L4_Call would leave out both phases, and succeed. */
 static L4_MsgTag_t refuse_nobody(struct thread *thread)
 {
+	const struct phases none = { .to = L4_nilthread, .from = L4_nilthread };
+
 	thread->last_call.count = 0;
-	(void) l4_tell_outcome(thread, NOBODY_TO_SEND_TO, L4_nilthread, 0);
+	(void) l4_tell_outcome(thread, NOBODY_TO_SEND_TO, &none, 0);
 	thread->last.hint = "nobody is called, and nothing was sent: did the look up fail?";
 	thread->mr[0] = TAG_FAILED;
 	errno = EINVAL;

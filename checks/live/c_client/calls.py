@@ -190,7 +190,9 @@ def check_errors(programs, l4d, room):
         want(one.ask("buffer 5"), r"^receive phase from 9\.1: non-existing partner")
         want(("", 0, one.ipc(source=LOCAL, rcv=0x64)[6]), "^receive phase from any thread of the space: timeout")
         # a number is waited for, and a partner that comes later
-        want(two.ask(f"connect_wait 200000 {server.dir} 1 1 2"), rf"^REFUSED K2: .* \({server.dir}/space1\)$")
+        want(two.ask(f"connect_wait 200000 {server.dir} 1 1 2"), rf"^REFUSED K2: {MEANINGS['K2']}; end the program that has it, or take another number \(number 1 at {server.dir}/space1\)$")
+        for number, said in ((1024, "REFUSED K1"), (65536, "K1")):
+            want(two.ask(f"connect {server.dir} 1 {number} 1"), rf"^{said}: {MEANINGS['K1']} \(number {number} at {server.dir}/space1\)$")
         two.tell(f"connect_wait 20000000 {server.dir} 1 1 2")
         time.sleep(0.1)
         one.ask("disconnect")

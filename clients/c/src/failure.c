@@ -148,7 +148,7 @@ static void append_number(struct text *text, const struct failure *failure)
 	if (failure->saved_errno != meaning->saved_errno)
 		append(text, ": %s", strerror(failure->saved_errno));
 	if (failure->hint != NULL)
-		append(text, " %s", failure->hint);
+		append(text, "%s", failure->hint);
 	if (failure->about[0] != 0)
 		append(text, " (%s)", failure->about);
 }

@@ -67,9 +67,10 @@ struct failure {
 	uint8_t number;
 	L4_Word_t code;
 	int saved_errno;
-	/* what stands behind the text: a path or a name, or nothing. A copy, since a later call has others */
-	char about[MAX_PATH_BYTES + 1];
-	/* what that means where it happened, or NULL */
+	/* what stands behind the text: a path, of a refusal with the number, or a name, or nothing. A copy, since a later call has
+	 * others */
+	char about[MAX_PATH_BYTES + sizeof "number 4294967295 at "];
+	/* what that means where it happened, or what helps, or NULL */
 	const char *hint;
 	/* of an outcome: the phases of its call, and which string of the message did not fit, from 1 on, or 0 */
 	struct phases phases;

@@ -203,7 +203,8 @@ def check_errors(programs, l4d, room):
         assert three.ipc(source=ANY)[1] == thread_id(1, 2)
         assert three.code(to=thread_id(1, 2), words=(7,)) == 0
         assert two.hear()[0].split()[4] == "7"
-        want(two.ask(f"call_wait 100000 {thread_id(9):x}"), r"^send phase to 9\.1: non-existing partner")
+        for waited, said in ((0, ""), (100000, ", after waiting for 0.1 s"), (1000000, ", after waiting for 1 s")):
+            want(two.ask(f"call_wait {waited} {thread_id(9):x}"), rf"^send phase to 9\.1: non-existing partner \(e=2, offset 0\){said}$")
         # nobody is called, as where a look up failed: it fails at once, and sends nothing; L4_Call leaves its phases out, as the manual has it
         began, made = time.time(), two.ask("ipc 0 0 0 0 - - - -")[0].split()
         assert made[0] == "0" and made[3] == "0", made

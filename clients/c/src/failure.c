@@ -119,6 +119,14 @@ static void append_send_overflow(struct text *text, unsigned string)
 	append(text, ", and nothing was delivered");
 }
 
+/* How long it was waited for a partner, as the period had it: a period has ten bits. */
+static void append_waited(struct text *text, L4_Word64_t microseconds)
+{
+	double seconds = (double) microseconds / 1e6;
+
+	append(text, seconds < 9.95 ? ", after waiting for %.2g s" : ", after waiting for %.0f s", seconds);
+}
+
 static void append_outcome(struct text *text, const struct failure *outcome)
 {
 	bool is_receive = outcome->code & 1;
@@ -130,6 +138,8 @@ static void append_outcome(struct text *text, const struct failure *outcome)
 		append_receive_overflow(text, &outcome->phases);
 	else if (error == E_MESSAGE_OVERFLOW)
 		append_send_overflow(text, outcome->string);
+	if (outcome->waited != 0)
+		append_waited(text, outcome->waited);
 	if (outcome->hint != NULL)
 		append(text, ", %s", outcome->hint);
 	if (outcome->about[0] != 0)

@@ -75,6 +75,8 @@ struct failure {
 	/* of an outcome: the phases of its call, and which string of the message did not fit, from 1 on, or 0 */
 	struct phases phases;
 	unsigned string;
+	/* and how many microseconds were waited for its partner before that was given up, or 0 */
+	L4_Word64_t waited;
 };
 
 /* What a later version tells of the last Ipc: so many numbers, in the order of l4_told_t. */

@@ -107,6 +107,12 @@ static L4_MsgTag_t refuse_nobody(struct thread *thread)
 	return (L4_MsgTag_t) { TAG_FAILED };
 }
 
+/* Whether a send went to a thread that is not live. */
+static bool is_nobody_there(const struct failure *failure)
+{
+	return failure->source == OUTCOME && failure->code == NOBODY_TO_SEND_TO;
+}
+
 L4_MsgTag_t l4_call_wait(L4_ThreadId_t to, L4_Time_t patience)
 {
 	struct thread *thread = &l4_thread;
@@ -120,6 +126,9 @@ L4_MsgTag_t l4_call_wait(L4_ThreadId_t to, L4_Time_t patience)
 	do {
 		thread->mr[0] = sent;
 		tag = L4_Call(to);
-	} while (L4_IpcFailed(tag) && thread->last.source == OUTCOME && thread->last.code == NOBODY_TO_SEND_TO && l4_pause(until));
+		if (!L4_IpcFailed(tag) || !is_nobody_there(&thread->last))
+			return tag;
+	} while (l4_pause(until));
+	thread->last.waited = l4_microseconds(patience);
 	return tag;
 }

@@ -388,9 +388,22 @@ def check_unsendable(programs, l4d, room):
         assert asker.code(to=serving.thread, label=1) == 0
         assert asker.code(to=serving.thread, label=9) == 0
         assert serving.hear()[0] == "0 6"
+        # what is said of it without a function for trouble: who got that label, and who got nothing
+        told = os.path.join(room, "trouble")
+        assert serving.connect(1)[0] == 0
+        serving.tell(f"serve_telling {told}")
+        got = asker.ipc(to=serving.thread, source=serving.thread, rcv=0x2BE8, label=2)
+        assert got[0] == FUNCTION_FAILED << 16, got
+        assert asker.code(to=serving.thread, label=0) == 0
+        assert asker.code(to=serving.thread, label=9) == 0
+        assert serving.hear()[0] == "0"
+        with open(told, encoding="utf-8") as file:
+            lines = file.read().splitlines()
+        nobody = "l4_serve: 2.1 got no answer: send phase to 2.1: timeout (e=1, offset 0)"
+        assert lines[0] == f"l4_serve: 2.1 gets L4_FUNCTION_FAILED in place of an answer: F4: {MEANINGS['F4']}" and nobody in lines[1:], lines
         serving.end()
         asker.end()
-        return len(labels) + 3
+        return len(labels) + 5
 
 
 def check_driver(programs, l4d, room):

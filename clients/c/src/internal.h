@@ -127,6 +127,8 @@ struct thread {
 	L4_ThreadId_t virtual_sender;
 	/* L4_Set_VirtualSender was called: l4_serve asks it of its function */
 	bool names_sender;
+	/* l4_serve sends L4_FUNCTION_FAILED next, in place of an answer that cannot be sent */
+	bool tells_failure;
 	struct told last_call;
 	struct told_moment last_exchange;
 	struct failure last;

@@ -190,7 +190,9 @@ def check_errors(programs, l4d, room):
         want(one.ask("buffer 5"), r"^receive phase from 9\.1: non-existing partner")
         want(("", 0, one.ipc(source=LOCAL, rcv=0x64)[6]), "^receive phase from any thread of the space: timeout")
         # a number is waited for, and a partner that comes later
-        want(two.ask(f"connect_wait 200000 {server.dir} 1 1 2"), rf"^REFUSED K2: .* \({server.dir}/space1\)$")
+        want(two.ask(f"connect_wait 200000 {server.dir} 1 1 2"), rf"^REFUSED K2: {MEANINGS['K2']}; end the program that has it, or take another number \(number 1 at {server.dir}/space1\)$")
+        for number, said in ((1024, "REFUSED K1"), (65536, "K1")):
+            want(two.ask(f"connect {server.dir} 1 {number} 1"), rf"^{said}: {MEANINGS['K1']} \(number {number} at {server.dir}/space1\)$")
         two.tell(f"connect_wait 20000000 {server.dir} 1 1 2")
         time.sleep(0.1)
         one.ask("disconnect")
@@ -201,7 +203,8 @@ def check_errors(programs, l4d, room):
         assert three.ipc(source=ANY)[1] == thread_id(1, 2)
         assert three.code(to=thread_id(1, 2), words=(7,)) == 0
         assert two.hear()[0].split()[4] == "7"
-        want(two.ask(f"call_wait 100000 {thread_id(9):x}"), r"^send phase to 9\.1: non-existing partner")
+        for waited, said in ((0, ""), (100000, ", after waiting for 0.1 s"), (1000000, ", after waiting for 1 s")):
+            want(two.ask(f"call_wait {waited} {thread_id(9):x}"), rf"^send phase to 9\.1: non-existing partner \(e=2, offset 0\){said}$")
         # nobody is called, as where a look up failed: it fails at once, and sends nothing; L4_Call leaves its phases out, as the manual has it
         began, made = time.time(), two.ask("ipc 0 0 0 0 - - - -")[0].split()
         assert made[0] == "0" and made[3] == "0", made
@@ -213,7 +216,28 @@ def check_errors(programs, l4d, room):
         three.tell_ipc(source=ANY, buffers=[[3], [2, 2], [5]])
         want(("", 0, one.connect(4) and one.ipc(to=thread_id(3), strings=[[b"k"], [b""], [b"val", b"ue!"], [b"x"]])[6]),
              r"^send phase to 3\.1: message overflow \(e=4, offset 1\), string 3 did not fit the receiver's buffers, and nothing was delivered$")
-        want(("", 0, three.hear_ipc()[6]), r"^receive phase from any thread: message overflow \(e=4, offset 1\), a string did not fit")
+        overflow, unfit = r"message overflow \(e=4, offset {}\), ", "a string did not fit the buffers that were accepted"
+        want(("", 0, three.hear_ipc()[6]), rf"^receive phase from any thread: {overflow.format(1)}{unfit}, and nothing was received$")
+        # an answer that does not fit: the request was delivered, which is not to be sent again
+        delivered = "; what was sent was delivered, and "
+        for source, buffers, behind, wanted in ((thread_id(3), [[1]], 0, unfit + delivered + "no answer came"),
+                                                (thread_id(3), [[2], [1]], 2, unfit + delivered + "no answer came"),
+                                                (thread_id(3), None, 0, "no strings were accepted" + delivered + "no answer came"),
+                                                (thread_id(3), [], 0, "no strings were accepted" + delivered + "no answer came"),
+                                                (ANY, [[1]], 0, unfit + delivered + "nothing was received")):
+            three.tell_ipc(source=ANY)
+            one.tell_ipc(to=thread_id(3), source=source, words=(7,), buffers=buffers)
+            got = three.hear_ipc()
+            assert (got[1], got[4]) == (one.thread, "7"), got
+            want(("", 0, three.ipc(to=one.thread, strings=[[b"an"], [b"answer"]])[6]),
+                 rf"^send phase to 4\.1: {overflow.format(behind)}string {1 + (behind > 0)} did not fit the receiver's buffers, and nothing was delivered$")
+            shown = "3\\.1" if source == thread_id(3) else "any thread"
+            want(("", 0, one.hear_ipc()[6]), rf"^receive phase from {shown}: {overflow.format(behind)}{wanted}$")
+        # a receive alone
+        for buffers, wanted in ((None, "no strings were accepted"), ([], "no strings were accepted"), ([[1]], unfit)):
+            three.tell_ipc(source=one.thread, buffers=buffers)
+            one.ipc(to=thread_id(3), strings=[[b"an"]])
+            want(("", 0, three.hear_ipc()[6]), rf"^receive phase from 4\.1: {overflow.format(0)}{wanted}, and nothing was received$")
         two.tell("lookup_wait 20000000 echo")
         time.sleep(0.1)
         names = NameServer(server.path)

@@ -16,7 +16,7 @@ from frames import ANY, FAILED, NIL, thread_id
 from kit import ROOT
 from name_server import NameServer
 from page_text import blocks_of
-from protocol_tables import MAX_NAME_BYTES, MAX_STRING_BYTES
+from protocol_tables import MAX_NAME_BYTES, MAX_STRING_BYTES, MEANINGS
 from traces import entries_in
 
 # The label of the answer that stands for one that cannot be sent.
@@ -344,15 +344,23 @@ def check_worst(programs, l4d, room):
 
 
 def check_again(programs, pages, l4d, room):
-    """README's loop of a server, beside an l4d that is started again and again: the strings that it accepted once come each time."""
+    """README's loop of a server, beside an l4d that is started again and again: the strings that it accepted once come each time. While another
+    thread has the name the loop says so, and it has the name once that thread has ended."""
     folder = tempfile.mkdtemp(dir=room)
-    process = subprocess.Popen([pages["page_again"], folder], stdout=subprocess.PIPE, text=True)
+    process = None
     try:
         for word in ("one", "two"):
             with Server(l4d, room, "--replace", folder=folder, trace=False) as server:
                 NameServer(server.path)
-                asker = Say(programs["say"], folder, 2)
+                asker, other = (Say(programs["say"], folder, number) for number in (2, 3))
+                if word == "one":
+                    assert other.ask("register echo")[0] == "0"
+                    process = subprocess.Popen([pages["page_again"], folder], stdout=subprocess.PIPE, stderr=subprocess.PIPE, text=True)
+                    assert select.select([process.stderr], [], [], SECONDS)[0], "the server does not say that it has no name"
+                    assert process.stderr.readline() == f"REFUSED N3: {MEANINGS['N3']} (echo)\n"
+                other.end()
                 to = word_of_id("0x" + asker.ask("lookup_wait 20000000 echo")[0])
+                assert to & ~0xFFFF_FFFF == thread_id(1) & ~0xFFFF_FFFF, f"{to:x} has the name"
                 assert asker.ipc(to=to, source=to, strings=[[word.encode()]])[3] == 0, word
                 assert select.select([process.stdout], [], [], SECONDS)[0], f"the string {word} has not come to the server"
                 assert process.stdout.readline() == f"2 {word}\n", word
@@ -361,9 +369,10 @@ def check_again(programs, pages, l4d, room):
                 # the folder stays
                 server.folder = tempfile.mkdtemp(dir=room)
     finally:
-        process.kill()
-        process.communicate()
-    return 2
+        if process:
+            process.kill()
+            process.communicate()
+    return 4
 
 
 def check_unsendable(programs, l4d, room):
@@ -379,9 +388,22 @@ def check_unsendable(programs, l4d, room):
         assert asker.code(to=serving.thread, label=1) == 0
         assert asker.code(to=serving.thread, label=9) == 0
         assert serving.hear()[0] == "0 6"
+        # what is said of it without a function for trouble: who got that label, and who got nothing
+        told = os.path.join(room, "trouble")
+        assert serving.connect(1)[0] == 0
+        serving.tell(f"serve_telling {told}")
+        got = asker.ipc(to=serving.thread, source=serving.thread, rcv=0x2BE8, label=2)
+        assert got[0] == FUNCTION_FAILED << 16, got
+        assert asker.code(to=serving.thread, label=0) == 0
+        assert asker.code(to=serving.thread, label=9) == 0
+        assert serving.hear()[0] == "0"
+        with open(told, encoding="utf-8") as file:
+            lines = file.read().splitlines()
+        nobody = "l4_serve: 2.1 got no answer: send phase to 2.1: timeout (e=1, offset 0)"
+        assert lines[0] == f"l4_serve: 2.1 gets L4_FUNCTION_FAILED in place of an answer: F4: {MEANINGS['F4']}" and nobody in lines[1:], lines
         serving.end()
         asker.end()
-        return len(labels) + 3
+        return len(labels) + 5
 
 
 def check_driver(programs, l4d, room):

@@ -248,7 +248,8 @@ def all_cases():
 
 def check_played(call, data, cut, line):
     """One line of play, against what the answer tells."""
-    head, again = line.split("; ")
+    # what the call says may have such a sign, too; what the next one says has none
+    head, again = line.rsplit("; ", 1)
     fields = head.split(" ", 12)
     connected, _, tag, code, came_from, actual, words, times, area, outside, myself, errno, text = fields
     try:

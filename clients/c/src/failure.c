@@ -43,9 +43,9 @@ static int tell(struct thread *thread, struct failure failure)
 	return -1;
 }
 
-int l4_tell_outcome(struct thread *thread, L4_Word_t code, L4_ThreadId_t partner, unsigned string)
+int l4_tell_outcome(struct thread *thread, L4_Word_t code, const struct phases *phases, unsigned string)
 {
-	thread->last = (struct failure) { .source = OUTCOME, .code = code, .partner = partner, .string = string };
+	thread->last = (struct failure) { .source = OUTCOME, .code = code, .phases = *phases, .string = string };
 	thread->error_code = code;
 	return -1;
 }
@@ -100,17 +100,46 @@ static void append_partner(struct text *text, bool is_receive, L4_ThreadId_t par
 		append(text, "%llu.%llu", (unsigned long long) L4_ThreadNo(partner), (unsigned long long) L4_Version(partner));
 }
 
+/* What did not fit in a receive phase; and that the send phase before it went well, so that nobody sends that again. */
+static void append_receive_overflow(struct text *text, const struct phases *phases)
+{
+	append(text, phases->buffer_words == 0 ? ", no strings were accepted" : ", a string did not fit the buffers that were accepted");
+	if (!phases->sends)
+		append(text, ", and nothing was received");
+	else if (L4_IsThreadEqual(phases->from, phases->to))
+		append(text, "; what was sent was delivered, and no answer came");
+	else
+		append(text, "; what was sent was delivered, and nothing was received");
+}
+
+static void append_send_overflow(struct text *text, unsigned string)
+{
+	if (string != 0)
+		append(text, ", string %u did not fit the receiver's buffers", string);
+	append(text, ", and nothing was delivered");
+}
+
+/* How long it was waited for a partner, as the period had it: a period has ten bits. */
+static void append_waited(struct text *text, L4_Word64_t microseconds)
+{
+	double seconds = (double) microseconds / 1e6;
+
+	append(text, seconds < 9.95 ? ", after waiting for %.2g s" : ", after waiting for %.0f s", seconds);
+}
+
 static void append_outcome(struct text *text, const struct failure *outcome)
 {
 	bool is_receive = outcome->code & 1;
 	unsigned error = outcome->code >> 1 & 7;
 
-	append_partner(text, is_receive, outcome->partner);
+	append_partner(text, is_receive, is_receive ? outcome->phases.from : outcome->phases.to);
 	append(text, ": %s (e=%u, offset %llu)", errors[error], error, (unsigned long long) (outcome->code >> 4));
 	if (error == E_MESSAGE_OVERFLOW && is_receive)
-		append(text, ", a string did not fit the buffers that were accepted, and nothing was delivered");
-	else if (error == E_MESSAGE_OVERFLOW && outcome->string != 0)
-		append(text, ", string %u did not fit the receiver's buffers, and nothing was delivered", outcome->string);
+		append_receive_overflow(text, &outcome->phases);
+	else if (error == E_MESSAGE_OVERFLOW)
+		append_send_overflow(text, outcome->string);
+	if (outcome->waited != 0)
+		append_waited(text, outcome->waited);
 	if (outcome->hint != NULL)
 		append(text, ", %s", outcome->hint);
 	if (outcome->about[0] != 0)
@@ -129,7 +158,7 @@ static void append_number(struct text *text, const struct failure *failure)
 	if (failure->saved_errno != meaning->saved_errno)
 		append(text, ": %s", strerror(failure->saved_errno));
 	if (failure->hint != NULL)
-		append(text, " %s", failure->hint);
+		append(text, "%s", failure->hint);
 	if (failure->about[0] != 0)
 		append(text, " (%s)", failure->about);
 }

@@ -52,19 +52,31 @@ enum source {
 	FOUND_HERE,
 };
 
+/* Which phases a call has, with whom, and how many of BR1 on are its buffers. */
+struct phases {
+	bool sends;
+	bool receives;
+	L4_ThreadId_t to;
+	L4_ThreadId_t from;
+	size_t buffer_words;
+};
+
 struct failure {
 	enum source source;
 	char class;
 	uint8_t number;
 	L4_Word_t code;
 	int saved_errno;
-	/* what stands behind the text: a path or a name, or nothing. A copy, since a later call has others */
-	char about[MAX_PATH_BYTES + 1];
-	/* what that means where it happened, or NULL */
+	/* what stands behind the text: a path, of a refusal with the number, or a name, or nothing. A copy, since a later call has
+	 * others */
+	char about[MAX_PATH_BYTES + sizeof "number 4294967295 at "];
+	/* what that means where it happened, or what helps, or NULL */
 	const char *hint;
-	/* of an outcome: the partner of the phase that failed, and which string of the message did not fit, from 1 on, or 0 */
-	L4_ThreadId_t partner;
+	/* of an outcome: the phases of its call, and which string of the message did not fit, from 1 on, or 0 */
+	struct phases phases;
 	unsigned string;
+	/* and how many microseconds were waited for its partner before that was given up, or 0 */
+	L4_Word64_t waited;
 };
 
 /* What a later version tells of the last Ipc: so many numbers, in the order of l4_told_t. */
@@ -92,15 +104,6 @@ struct kept {
 	L4_ThreadId_t owing;
 };
 
-/* Which phases a call has, with whom, and how many of BR1 on are its buffers. */
-struct phases {
-	bool sends;
-	bool receives;
-	L4_ThreadId_t to;
-	L4_ThreadId_t from;
-	size_t buffer_words;
-};
-
 /* A thread of the process: its virtual registers and its connection. */
 struct thread {
 	bool is_connected;
@@ -124,6 +127,8 @@ struct thread {
 	L4_ThreadId_t virtual_sender;
 	/* L4_Set_VirtualSender was called: l4_serve asks it of its function */
 	bool names_sender;
+	/* l4_serve sends L4_FUNCTION_FAILED next, in place of an answer that cannot be sent */
+	bool tells_failure;
 	struct told last_call;
 	struct told_moment last_exchange;
 	struct failure last;
@@ -161,7 +166,7 @@ void l4_tell_about(struct failure *failure, const char *about);
 /* Each of these answers -1, and all but the first set errno. */
 
 /* The outcome of a call was this ErrorCode. */
-int l4_tell_outcome(struct thread *thread, L4_Word_t code, L4_ThreadId_t partner, unsigned string);
+int l4_tell_outcome(struct thread *thread, L4_Word_t code, const struct phases *phases, unsigned string);
 /* A refusal of the server, or of the library before anything was sent: the connection stays. */
 int l4_refuse(struct thread *thread, enum source source, char class, unsigned number);
 /* A fault told by the server or found by the library: the connection is closed. errno is cause, or if that is 0 the one

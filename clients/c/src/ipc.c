@@ -97,12 +97,20 @@ L4_MsgTag_t l4_ipc_end(L4_ThreadId_t *from)
 /* What l4_call_wait answers for L4_nilthread. L4_Call would leave out both phases, and succeed. */
 static L4_MsgTag_t refuse_nobody(struct thread *thread)
 {
+	const struct phases none = { .to = L4_nilthread, .from = L4_nilthread };
+
 	thread->last_call.count = 0;
-	(void) l4_tell_outcome(thread, NOBODY_TO_SEND_TO, L4_nilthread, 0);
+	(void) l4_tell_outcome(thread, NOBODY_TO_SEND_TO, &none, 0);
 	thread->last.hint = "nobody is called, and nothing was sent: did the look up fail?";
 	thread->mr[0] = TAG_FAILED;
 	errno = EINVAL;
 	return (L4_MsgTag_t) { TAG_FAILED };
+}
+
+/* Whether a send went to a thread that is not live. */
+static bool is_nobody_there(const struct failure *failure)
+{
+	return failure->source == OUTCOME && failure->code == NOBODY_TO_SEND_TO;
 }
 
 L4_MsgTag_t l4_call_wait(L4_ThreadId_t to, L4_Time_t patience)
@@ -118,6 +126,9 @@ L4_MsgTag_t l4_call_wait(L4_ThreadId_t to, L4_Time_t patience)
 	do {
 		thread->mr[0] = sent;
 		tag = L4_Call(to);
-	} while (L4_IpcFailed(tag) && thread->last.source == OUTCOME && thread->last.code == NOBODY_TO_SEND_TO && l4_pause(until));
+		if (!L4_IpcFailed(tag) || !is_nobody_there(&thread->last))
+			return tag;
+	} while (l4_pause(until));
+	thread->last.waited = l4_microseconds(patience);
 	return tag;
 }

@@ -144,15 +144,15 @@ static int read_pieces(struct thread *thread, const struct outcome *outcome, con
 	return 0;
 }
 
-/* Tells an outcome that is an error: of which partner, and of which string that did not fit. */
+/* Tells an outcome that is an error: of which phases, and of which string that did not fit. */
 static int tell_outcome(struct thread *thread, const struct phases *phases, L4_Word_t code)
 {
 	size_t untyped = thread->mr[0] & 0x3f, typed = thread->mr[0] >> 6 & 0x3f;
 
 	if (code & 1)
-		return l4_tell_outcome(thread, code, phases->from, 0);
+		return l4_tell_outcome(thread, code, phases, 0);
 	/* the message stands in its registers still */
-	return l4_tell_outcome(thread, code, phases->to, l4_string_at(thread->mr + 1 + untyped, typed, code >> 4));
+	return l4_tell_outcome(thread, code, phases, l4_string_at(thread->mr + 1 + untyped, typed, code >> 4));
 }
 
 int l4_hear(struct thread *thread, const struct phases *phases, L4_ThreadId_t *from)

@@ -20,8 +20,8 @@ static void print_trouble(L4_ThreadId_t to, void *data)
 	else if (L4_IsNilThread(to))
 		fprintf(stderr, "l4_serve: a request did not come: %s\n", l4_error());
 	else
-		fprintf(stderr, "l4_serve: %llu.%llu got no answer: %s\n", (unsigned long long) L4_ThreadNo(to),
-			(unsigned long long) L4_Version(to), l4_error());
+		fprintf(stderr, "l4_serve: %llu.%llu %s: %s\n", (unsigned long long) L4_ThreadNo(to), (unsigned long long) L4_Version(to),
+			l4_thread.tells_failure ? "gets L4_FUNCTION_FAILED in place of an answer" : "got no answer", l4_error());
 }
 
 /* Whether the server lacked room for the call, of which it may have some later. */
@@ -103,8 +103,8 @@ int l4_serve(l4_answer_t answer, l4_trouble_t trouble, void *data)
 {
 	struct thread *thread = &l4_thread;
 	L4_ThreadId_t to = L4_nilthread, from;
-	bool tells_failure = false;
 
+	thread->tells_failure = false;
 	if (answer == NULL)
 		return l4_refuse(thread, FOUND_HERE, 'C', C_NO_MEMORY_THERE);
 	if (trouble == NULL)
@@ -116,12 +116,12 @@ int l4_serve(l4_answer_t answer, l4_trouble_t trouble, void *data)
 
 		if (L4_IpcFailed(tag)) {
 			/* in place of what cannot be sent the asker is told so, once */
-			tells_failure = !tells_failure && is_unsendable(&thread->last, to);
+			thread->tells_failure = !thread->tells_failure && is_unsendable(&thread->last, to);
 			if (!can_go_on(thread, &to))
 				return -1;
 			if (!is_for_names(&thread->last))
 				trouble(to, data);
-			if (tells_failure)
+			if (thread->tells_failure)
 				thread->mr[0] = L4_FUNCTION_FAILED << 16;
 			else
 				to = L4_nilthread;
@@ -129,7 +129,7 @@ int l4_serve(l4_answer_t answer, l4_trouble_t trouble, void *data)
 			to = L4_nilthread;
 			keep_names(thread, trouble, data);
 		} else {
-			tells_failure = false;
+			thread->tells_failure = false;
 			to = is_owed(&thread->kept, from) ? L4_nilthread : have_answered(thread, answer, from, tag, data);
 		}
 	} while (thread->is_connected);

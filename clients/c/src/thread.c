@@ -29,7 +29,9 @@ enum {
 };
 
 /* what it means that the connection ended before the thread was live */
-#define TURNED_AWAY "before WELCOME: l4d has no memory or no worker for it, as it says on its standard error, or it ends"
+#define TURNED_AWAY " before WELCOME: l4d has no memory or no worker for it, as it says on its standard error, or it ends"
+/* what helps where a live thread has the number */
+#define OTHER_NUMBER "; end the program that has it, or take another number"
 
 /* A thread that returns without l4_disconnect ends its connection too: the key's value is the thread. */
 static pthread_key_t ending_key;
@@ -252,7 +254,20 @@ static bool is_turned_away(const struct failure *failure)
 	return failure->class == 'F' && failure->number == F_UNFINISHED;
 }
 
-/* One try to connect. What fails is told of the path. */
+static bool is_number_taken(const struct failure *failure)
+{
+	return failure->class == 'K' && failure->number == K_NUMBER_TAKEN;
+}
+
+/* Tells what was refused of the number and the path. */
+static void tell_about_number(struct thread *thread, unsigned number)
+{
+	(void) snprintf(thread->last.about, sizeof thread->last.about, "number %u at %s", number, thread->path);
+	if (is_number_taken(&thread->last))
+		thread->last.hint = OTHER_NUMBER;
+}
+
+/* One try to connect. What fails is told of the path, and what is refused of the number, too. */
 static int try_to_connect(struct thread *thread, const struct sockaddr_un *address, unsigned number, unsigned version, int64_t until)
 {
 	int error, status = -1;
@@ -277,6 +292,8 @@ static int try_to_connect(struct thread *thread, const struct sockaddr_un *addre
 	l4_tell_about(&thread->lost, thread->path);
 	if (is_turned_away(&thread->last))
 		thread->last.hint = thread->lost.hint = TURNED_AWAY;
+	if (thread->last.source == SERVER_REFUSED)
+		tell_about_number(thread, number);
 	errno = thread->last.saved_errno;
 	return -1;
 }
@@ -286,7 +303,7 @@ static bool may_come(const struct failure *failure)
 {
 	if (failure->class == 'F' && failure->number == F_DEVICE)
 		return failure->saved_errno == ENOENT || failure->saved_errno == ECONNREFUSED;
-	return is_turned_away(failure) || (failure->class == 'K' && failure->number == K_NUMBER_TAKEN);
+	return is_turned_away(failure) || is_number_taken(failure);
 }
 
 /* Connects, and tries again until this moment. An answer is waited for until then too, and for so many milliseconds. */
@@ -302,13 +319,16 @@ static int connect_until(const char *dir, unsigned space, unsigned number, unsig
 		return l4_refuse(thread, FOUND_HERE, 'C', C_NO_MEMORY_THERE);
 	if (version < FIRST_WIRE_VERSION || version > LAST_WIRE_VERSION)
 		return l4_refuse(thread, FOUND_HERE, 'C', C_NO_VERSION);
-	/* what a HELLO can ask for; whether there is such a thread the server says */
-	if (number > 0xffff)
-		return l4_refuse(thread, FOUND_HERE, 'K', K_BAD_NUMBER);
 	length = snprintf(address.sun_path, sizeof address.sun_path, "%s/space%u", dir, space);
 	if (length < 0 || (size_t) length >= sizeof address.sun_path)
 		return l4_refuse(thread, FOUND_HERE, 'C', C_NO_PATH);
 	memcpy(thread->path, address.sun_path, sizeof address.sun_path);
+	/* what a HELLO can ask for; whether there is such a thread the server says */
+	if (number > 0xffff) {
+		(void) l4_refuse(thread, FOUND_HERE, 'K', K_BAD_NUMBER);
+		tell_about_number(thread, number);
+		return -1;
+	}
 	for (;;) {
 		int64_t answered = milliseconds() + answer;
 

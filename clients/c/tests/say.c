@@ -8,6 +8,7 @@
  *     send TO, wait                     sends, or accepts, what the registers say
  *     register NAME, register_wait MICROSECONDS NAME, lookup NAME, list NAME
  *     serve                             answers by the label what cannot be sent (1, 2, 3), and ends by label 9
+ *     serve_telling FILE                the same, and l4_serve tells its trouble itself: standard error goes to the file
  *     begin, readable, end              a wait in two parts, and whether its outcome has begun to come
  *     connect_wait MICROSECONDS DIR SPACE NUMBER VERSION, lookup_wait MICROSECONDS NAME, call_wait MICROSECONDS TO
  *     item SIZE, null, nowhere          sends a string of this size, at no address, at one that is not there;
@@ -446,6 +447,14 @@ static void serve(void)
 	printf("%d %u", status, troubles);
 }
 
+static void serve_telling(const char *file)
+{
+	if (freopen(file, "w", stderr) == NULL)
+		die("no such file");
+	printf("%d", l4_serve(answer_badly, NULL, NULL));
+	fflush(stderr);
+}
+
 static void run(char *line)
 {
 	const char *command = part(&line, " ");
@@ -483,6 +492,8 @@ static void run(char *line)
 		print_outcome(l4_call_wait(thread(strchr(line, ' ')), period(line)), L4_nilthread);
 	else if (strcmp(command, "serve") == 0)
 		serve();
+	else if (strcmp(command, "serve_telling") == 0)
+		serve_telling(line);
 	else if (strcmp(command, "begin") == 0)
 		printf("%d", l4_ipc_begin(L4_nilthread, L4_anythread, L4_Timeouts(L4_Never, L4_Never)));
 	else if (strcmp(command, "end") == 0)

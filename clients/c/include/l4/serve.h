@@ -17,7 +17,8 @@ typedef L4_Bool_t (*l4_answer_t)(L4_ThreadId_t from, L4_MsgTag_t tag, void *data
 #define L4_FUNCTION_FAILED ((L4_Word_t) 0xffffffffffff)
 
 /* Is told what failed, l4_error() says why: the answer to this thread did not go over, or where it is L4_nilthread a request
- * did not come whole, as one with a string that the buffers did not take, or a name was not registered again. */
+ * did not come whole, as one with a string that the buffers did not take, or a name was not registered again. Of an answer
+ * that cannot be sent it is told before the thread gets L4_FUNCTION_FAILED in its place. */
 typedef void (*l4_trouble_t)(L4_ThreadId_t to, void *data);
 
 /* Serves until the connection is lost, as where the server l4d ends: -1 with errno, l4_error() says why. 0 where the

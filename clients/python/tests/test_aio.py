@@ -8,7 +8,7 @@ import unittest
 import unittest.mock
 
 import l4ipc
-from l4ipc import FUNCTION_FAILED, Message, Thread, ThreadId, aio
+from l4ipc import FUNCTION_FAILED, Message, Thread, ThreadId, aio, connecting
 
 from .scripted import DONE, EXREGR, FAULT, REFUSED, STRING, WELCOME, WORDS, failed, outcome, said
 from .test_connecting import Ender, Listener, patience
@@ -220,8 +220,8 @@ class Aio(unittest.TestCase):
                     async with aio.Thread(there.folder, 3) as canceller, aio.Thread(there.folder, 2, canceller=canceller) as thread:
                         task = asyncio.ensure_future(thread.wait())
                         await asyncio.sleep(0.05)
-                        for connection, sent in zip(there.kept, (EXREGR, answer)):
-                            connection.sendall(sent)
+                        there.kept[0].sendall(20 * EXREGR)
+                        asyncio.get_running_loop().call_later(0.01, there.kept[1].sendall, answer)
                         task.cancel()
                         with self.assertRaises(asyncio.CancelledError):
                             await task
@@ -268,6 +268,33 @@ class Aio(unittest.TestCase):
 
         with Listener([WELCOME, WELCOME]) as there:
             self.assertTrue(asyncio.run(main(there)))
+
+    def test_a_canceller_that_connects_again_ends_no_call_of_another_server(self):
+        async def main(there, at_once):
+            async with aio.Thread(there.listens().folder, 1, reconnect=True) as canceller, aio.Thread(there.folder, 2, canceller=canceller) as thread:
+                call = asyncio.ensure_future(thread.wait())
+                await asyncio.sleep(0.05)
+                there.kept[0].close()
+                if at_once:
+                    there.kept[1].close()
+                else:  # the end of the other connection comes as the canceller has connected again
+                    connect = canceller._connect_again
+
+                    async def ending(*words):
+                        await connect(*words)
+                        there.kept[1].close()
+
+                    canceller._connect_again = ending
+                call.cancel()
+                came = await asyncio.gather(asyncio.wait_for(call, 5), return_exceptions=True)
+                return type(came[0]), thread.is_closed
+
+        for at_once in (True, False):
+            with self.subTest(at_once=at_once), Listener([WELCOME, WELCOME, WELCOME + EXREGR]) as there:
+                self.assertEqual(asyncio.run(main(there, at_once)), (asyncio.CancelledError, True))
+                self.assertEqual([frame[4] for it in there.kept[2:] for frame in said(it) if frame[4] == 3], [])
+                if at_once:  # (for the server)
+                    connecting.connect(connecting.Place(there.path, 1))[0].close()
 
     def test_what_is_no_canceller(self):
         with self.assertRaises(ValueError):

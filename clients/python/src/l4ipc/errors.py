@@ -206,7 +206,12 @@ class Fault(L4Error):
 
 
 class Closed(L4Error):
-    """The connection has ended: the server ended, the thread was closed, or an earlier call ended it."""
+    """The connection has ended: the server ended, the thread was closed, or an earlier call ended it.
+
+    ``partner_is_lost`` says that it had ended before the call, whose partner was known by that connection alone, so that nothing was sent.
+    """
+
+    partner_is_lost = False
 
 
 class BadFrame(L4Error):

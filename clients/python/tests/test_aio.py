@@ -256,6 +256,27 @@ class Aio(unittest.TestCase):
         with Listener([WELCOME + EXREGR, WELCOME]) as there:
             self.assertEqual(asyncio.run(main(there)), (7, 8))
 
+    def test_what_is_told_of_a_thread_that_was_closed(self):
+        async def main(there, ends):
+            async with aio.Thread(there.listens().folder, 1) as canceller, aio.Thread(there.folder, 2, canceller=canceller) as thread:
+                if not ends:
+                    await canceller.aclose()
+                call = asyncio.ensure_future(thread.wait())
+                await asyncio.sleep(0.05)
+                if ends:
+                    there.kept[1].sendall(WORDS)
+                call.cancel()
+                await asyncio.gather(call, return_exceptions=True)
+                self.assertEqual(thread.is_closed, not ends)
+            with self.assertRaises(l4ipc.Closed) as caught:
+                await thread.sleep(0.01)
+            return str(caught.exception).partition(", closed>: ")[2]
+
+        cause = "no call is made: a call that was cancelled has closed it, for want of a canceller= that could end the call"
+        for ends, wanted in ((True, "no call is made"), (False, cause)):
+            with self.subTest(ends=ends), Listener([WELCOME + EXREGR, WELCOME]) as there:
+                self.assertEqual(asyncio.run(main(there, ends)), wanted)
+
     def test_a_canceller_that_makes_a_call(self):
         async def main(there):
             async with aio.Thread(there.listens().folder, 1) as canceller, aio.Thread(there.folder, 2, canceller=canceller) as thread:

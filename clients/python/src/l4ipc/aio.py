@@ -362,9 +362,8 @@ class Thread(Caller):
             is_sent = True
             return await self._hear(connection)
         except asyncio.CancelledError:
-            self._closed_by = "a call that was cancelled has closed it, for want of a canceller= that could end the call"
             if not is_sent or call is None or self._canceller is None:
-                self._close()
+                self._close_by_a_cancel()
             else:
                 with suppress(L4Error, RuntimeError, OSError, EOFError):  # a canceller that cannot end the call: the thread is closed
                     await self._end_call(self._canceller, connection, call)
@@ -397,8 +396,12 @@ class Thread(Caller):
                     await asyncio.sleep(next(waiting))
             self._keep(call, self._frame_until(self._arrived() or 0))
         except BaseException:
-            self._close()
+            self._close_by_a_cancel()
             raise
+
+    def _close_by_a_cancel(self) -> None:
+        self._lose_by("a call that was cancelled has closed it, for want of a canceller= that could end the call")
+        self._close()
 
     def _what_is_there(self, connection: socket.socket) -> Optional[int]:
         """Takes what has arrived, without waiting; where the next frame ends, if it is whole."""

@@ -95,6 +95,13 @@ class Caller:
         self._is_lost = True
         self._is_closed = self._is_closed or not self.reconnects
 
+    def _lose_by(self, cause: str) -> None:
+        """The same, by what is told later, unless the thread was closed before, or connects again."""
+        was_closed = self._is_closed
+        self._lose()
+        if self._is_closed and not was_closed:
+            self._closed_by = cause
+
     def _stays_closed(self) -> None:
         """A thread that was closed while it waited for l4d does not connect any more."""
         if self._is_closed:

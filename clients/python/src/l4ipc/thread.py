@@ -439,7 +439,7 @@ class Thread(Caller):
             raise Closed(f"{self!r}: the connection has ended, with l4d or by it") from (None if isinstance(end, EOFError) else end)
         except BaseException as error:
             if not isinstance(error, Exception):
-                self._closed_by = "a call that was interrupted has closed it"
+                self._lose_by("a call that was interrupted has closed it")
             self._close()
             raise
         finally:

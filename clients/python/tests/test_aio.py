@@ -256,6 +256,16 @@ class Aio(unittest.TestCase):
         with Listener([WELCOME + EXREGR, WELCOME]) as there:
             self.assertEqual(asyncio.run(main(there)), (7, 8))
 
+    def test_a_thread_that_was_not_connected(self):
+        async def main():
+            thread = aio.Thread("here", 2)
+            for does in (thread.wait, lambda: thread.sleep(1), lambda: thread.send("echo"), aio.Names(thread).list):
+                with self.assertRaises(l4ipc.Closed) as caught:
+                    await does()
+                self.assertIn("no call is made: it was not connected, as async with does, or await thread.connect()", str(caught.exception))
+
+        asyncio.run(main())
+
     def test_what_is_told_of_a_thread_that_was_closed(self):
         async def main(there, ends):
             async with aio.Thread(there.listens().folder, 1) as canceller, aio.Thread(there.folder, 2, canceller=canceller) as thread:

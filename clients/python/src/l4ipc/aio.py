@@ -66,6 +66,11 @@ class Thread(Caller):
             raise ValueError(f"canceller: {canceller!r} is no thread of the same space")
         return canceller
 
+    def _no_call_is_made(self) -> Closed:
+        if self._connection is None and not self._is_closed:
+            return Closed(f"{self!r}: no call is made: it was not connected, as async with does, or await thread.connect()")
+        return super()._no_call_is_made()
+
     async def connect(self) -> "Thread":
         """Connects, once."""
         self._queue = asyncio.Lock()

@@ -111,6 +111,18 @@ class Serve(unittest.TestCase):
         self.assertIn("1.1 was not answered: <Thread 2.1>: refused K5", refused)
         self.assertIn("1.1 was not answered: 2.1: send phase to 1.1", unsent)
 
+    def test_a_coroutine_function(self):
+        async def answer(request):
+            return Message()
+
+        thread, server = scripted(WORDS)
+        with self.assertRaises(TypeError) as caught:
+            thread.serve(answer)
+        self.assertIn("is a coroutine function, which serve of l4ipc.aio takes", str(caught.exception))
+        self.assertEqual(len(said(server)), 1)
+        thread.close()
+        server.close()
+
     def test_a_late_answer_of_a_name_server_is_no_request(self):
         late, came = outcome(1, NAMES, words=(2 << 32 | 1,)), []
         thread, server = scripted(failed(0x3) + failed(0x3) + late + WORDS + late)

@@ -1,6 +1,7 @@
 """The loop of a server: it answers each message, tells what it could not answer, and goes on."""
 
 import logging
+from inspect import iscoroutinefunction
 from typing import TYPE_CHECKING, Callable, Optional, Sequence
 
 from . import arguments, steps
@@ -63,6 +64,8 @@ class Loop:
 
     def __init__(self, thread: "Caller", function: Answering, buffers: Sequence[Buffer], tell: Telling, awaits: bool = False) -> None:
         check_arguments(function, buffers, tell)
+        if iscoroutinefunction(function) and not awaits:
+            raise TypeError(f"function: {arguments.shown(function)} is a coroutine function, which serve of l4ipc.aio takes")
         self.awaits = awaits
         self.thread, self.function, self.buffers, self.tell = thread, function, buffers, tell
         self.request: Optional[Received] = None

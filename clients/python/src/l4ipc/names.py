@@ -146,7 +146,7 @@ class Book:
         if not hasattr(thread, "lives"):
             raise arguments.wanted("thread", "a Thread is", thread)
         self._thread = thread
-        self._life = thread.lives
+        self._life = thread.lives or 1  # (a thread of coroutines may not be connected yet)
         self._timeout = arguments.seconds_or_none("timeout", timeout)
         self._server = None if server is None else ThreadId(arguments.thread_id("server", server))
 
@@ -181,12 +181,10 @@ class Book:
         buffers: List[Buffer] = [MAX_NAME_BYTES] if label == LIST else []
         first, has_ended = 1, False
         while True:
-            server = self.server
+            server = self.server or NILTHREAD
             try:
-                if server is None:
-                    server = self._server = yield from live_version(NUMBER, first, True)
-                if server is None:
-                    raise NoNames from None
+                if not server:
+                    server = self._server = yield from self._live_server(first)
                 answer: Received = yield Ipc(server, server, message, self._times(end, is_wait), buffers, True)
                 break
             except NoPartner:
@@ -207,6 +205,13 @@ class Book:
         if len(answer.words) != 1:
             raise L4Error(f"{server} is no name server")
         return answer
+
+    def _live_server(self, first: int) -> Steps[ThreadId]:
+        """The name server that is there, from this version on."""
+        server = yield from live_version(NUMBER, first, True)
+        if server is None:
+            raise NoNames from None
+        return server
 
     def register(
         self, name: str, originator: Optional[int] = None, end: Optional[float] = None, is_wait: bool = False

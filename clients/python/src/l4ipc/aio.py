@@ -183,7 +183,7 @@ class Thread(Caller):
         times = timeouts(None, seconds, receive_name="seconds")
         await self._ready()
         try:
-            await self._ipc(NILTHREAD, self.id, NO_MESSAGE, times)
+            await self._ipc(NILTHREAD, self.id, NO_MESSAGE, times, (), True)
         except Timeout as end:
             if end.phase != RECEIVE:
                 raise

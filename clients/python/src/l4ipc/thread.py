@@ -199,7 +199,7 @@ class Thread(Caller):
         times = timeouts(None, seconds, receive_name="seconds")
         self._ready()
         try:
-            self._ipc(NILTHREAD, self.id, NO_MESSAGE, times)
+            self._ipc(NILTHREAD, self.id, NO_MESSAGE, times, (), True)
         except Timeout as end:
             if end.phase != RECEIVE:
                 raise

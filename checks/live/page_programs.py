@@ -100,8 +100,8 @@ ASKS = {
 }
 # A piece of a program on a page, and what stands around it where it is run.
 PIECES = {DRIVE: """
-import os, select, sys
-from l4ipc import IpcError, L4Error, Message, Thread
+import os, sys
+from l4ipc import L4Error, Message, Thread
 
 {block}
 

@@ -6,7 +6,7 @@ import signal
 import time
 
 from python_client.package import name_server
-from python_client.seeing import Message, Server, aio, beside, check, end, l4ipc, names, output, raised, same, told
+from python_client.seeing import Message, PlainServer, Server, ThreadId, aio, beside, check, end, l4ipc, names, output, raised, same, told
 
 
 def server_restarts(server):
@@ -177,6 +177,121 @@ def in_time(what, seconds, does, kind, text):
     took = time.monotonic() - began
     check(f"{what}, stopped: its error", isinstance(answer, kind) and text in str(answer), repr(answer))
     check(f"{what}, stopped: its time", seconds - 0.1 < took < seconds + 1, took)
+
+
+def names_over_restarts(l4d, l4x):
+    """A client that keeps its connection over the restart of l4d: what it calls by a name goes to who has that name in the new one."""
+    for how in (signal.SIGTERM, signal.SIGKILL):
+        server = Server(l4d)
+        started_names(server, l4x, 4)
+        clients = [Blocking(server.folder, 30), Waiting(server.folder, 31)]
+        with l4ipc.Thread(server.folder, 1) as echo:
+            names.register(echo, "echo")
+            serves = beside(lambda: echo.serve(lambda request: Message(0, [111]), tell=lambda *_: None))
+            for client in clients:
+                same(f"{client.what}: before the restart", client.call("echo").words, (111,))
+                same(f"{client.what}: it registers", client.register(f"client{client.thread.id.number}"), client.thread.id)
+            restarted(server, l4d, how)
+            serves(10)
+        started_names(server, l4x, 1)
+        what = f"{how.name}, {{}}: {{}}".format
+        with l4ipc.Thread(server.folder, 1) as other, l4ipc.Thread(server.folder, 2) as echo:
+            # (the old id is that of a thread that is there and receives nothing, and nobody has the name)
+            for client in clients:
+                answer = beside(lambda: client.call("echo", wait_for=0.3))(10)
+                check(what(client.what, "a name that nobody has registered"), isinstance(answer, l4ipc.Unregistered), repr(answer))
+                client.thread.kept.names.clear()
+                check(what(client.what, "it registers again"), client.register(f"client{client.thread.id.number}") == client.thread.id)
+            names.register(echo, "echo")
+            came = []
+            serves = beside(lambda: echo.serve(lambda request: came.append(request.label) or Message(0, [222]), tell=lambda *_: None))
+            for label, client in enumerate(clients):
+                same(what(client.what, "a call"), client.call("echo", Message(label)).words, (222,))
+                client.send("echo", Message(label + 10))
+                same(what(client.what, "a call after a send"), client.call("echo").words, (222,))
+                same(what(client.what, "its connections"), client.thread.lives, 2)
+            same(what("both", "what came"), came, [0, 10, 0, 1, 11, 0])
+            told(what("both", "nothing came to the old id"), lambda: other.wait(0), l4ipc.Timeout, phase="receive")
+            restarted(server, l4d, how)
+            serves(10)
+        # the first message after the restart is a send
+        started_names(server, l4x, 1)
+        with l4ipc.Thread(server.folder, 2) as other, l4ipc.Thread(server.folder, 3) as echo:
+            names.register(echo, "echo")
+            sends = beside(lambda: [client.send("echo", Message(9), 5) for client in clients])
+            same(what("both", "a send alone"), [echo.wait(5).label for _ in clients], [9, 9])
+            sends(10)
+            told(what("both", "no send came to the old id"), lambda: other.wait(0), l4ipc.Timeout, phase="receive")
+            for client in clients:
+                client.close()
+        server.stop()
+
+
+def started_names(server, l4x, version):
+    """The name server, once it was started again so often that it has this version."""
+    for turn in range(1, version + 1):
+        process = name_server(server, l4x, turn)
+        if turn < version:
+            end(process)
+            with server.next_thread(248) as thread:
+                wait_until_gone(thread, ThreadId.of(names.NUMBER, turn))
+
+
+def restarted(server, l4d, how):
+    """The l4d of a server, ended so and started again in its folder; its programs are ended first."""
+    for process in server.started:
+        end(process)
+    server.started.clear()
+    server.process.send_signal(how)
+    server.process.communicate()
+    server.process = PlainServer(l4d, "--replace", folder=server.folder).process
+
+
+class Blocking:
+    """A client that connects again, whose calls block."""
+
+    what = "a thread"
+
+    def __init__(self, folder, number):
+        self.thread = l4ipc.Thread(folder, number, wait_for=10, reconnect=True)
+        self.asked = names.Names(self.thread)
+
+    def call(self, *words, **more):
+        return self.thread.call(*words, **more)
+
+    def send(self, *words, **more):
+        self.thread.send(*words, **more)
+
+    def register(self, name):
+        return self.asked.register(name)
+
+    def close(self):
+        self.thread.close()
+
+
+class Waiting:
+    """The same of one whose calls are coroutines."""
+
+    what = "a thread of coroutines"
+
+    def __init__(self, folder, number):
+        self.loop = asyncio.new_event_loop()
+        self.thread = aio.Thread(folder, number, wait_for=10, reconnect=True)
+        self.asked = aio.Names(self.thread)
+        self.loop.run_until_complete(self.thread.connect())
+
+    def call(self, *words, **more):
+        return self.loop.run_until_complete(self.thread.call(*words, **more))
+
+    def send(self, *words, **more):
+        self.loop.run_until_complete(self.thread.send(*words, **more))
+
+    def register(self, name):
+        return self.loop.run_until_complete(self.asked.register(name))
+
+    def close(self):
+        self.thread.close()
+        self.loop.close()
 
 
 def looked_up(server, l4x, name):

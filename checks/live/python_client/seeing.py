@@ -61,10 +61,10 @@ def times_of(thread, told):
 class Seen(l4ipc.Thread):
     """A thread whose calls are written down."""
 
-    def _ipc(self, to, from_specifier, message, times, buffers=(), is_answer=False):
+    def _ipc(self, to, from_specifier, message, times, buffers=(), same_life=False):
         line = call_text(self.id, to, from_specifier, message, times, buffers)
         try:
-            received = super()._ipc(to, from_specifier, message, times, buffers, is_answer)
+            received = super()._ipc(to, from_specifier, message, times, buffers, same_life)
         except l4ipc.IpcError as error:
             seen[str(self.id)].append((line, ("failed", error.code), times_of(self, error)))
             raise

@@ -1,5 +1,6 @@
 #!/usr/bin/env python3
-"""A driver: it waits for a device and for messages at the same time. The device is a terminal or a pipe, of which each line is one datum.
+"""A driver: it waits for a device and for messages at the same time. The device is a terminal or a pipe, of which each line is one datum; one of more than
+65,536 bytes is given in parts.
 
     driver.py DIR serve DEVICE     is thread 60, and thread 61 beside it: gives each line of the device to who asked first
     driver.py DIR ask              is thread 62: asks for the next line, and prints it
@@ -13,7 +14,7 @@ from collections import deque
 from l4ipc import IpcError, L4Error, Message, Thread
 from l4ipc.names import Names
 
-MOST_BYTES = 4096
+MOST_BYTES = 65_536
 MOST_LINES = 1000
 
 
@@ -24,6 +25,7 @@ class Driver:
         self.requests = requests  # this thread waits for requests all the time, so it cannot send
         self.answers = answers  # so this one answers, in its name
         self.lines = deque(maxlen=MOST_LINES)
+        self.rest = b""  # of a line whose end has not come yet
         self.clients = {}  # each by its thread number: who asks again has asked once
 
     def take_request(self):
@@ -40,7 +42,12 @@ class Driver:
     def take_lines(self, device):
         """Takes the lines that the device has; answers whether it goes on."""
         data = os.read(device, MOST_BYTES)
-        self.lines.extend(data.splitlines())
+        *lines, self.rest = (self.rest + data).split(b"\n")
+        if len(self.rest) >= MOST_BYTES or not data and self.rest:  # too long for one message, or the device ends the line
+            lines, self.rest = [*lines, self.rest], b""
+        for line in lines:
+            line = line.removesuffix(b"\r")
+            self.lines.extend(line[at : at + MOST_BYTES] for at in range(0, max(len(line), 1), MOST_BYTES))
         self.give()
         return bool(data)
 

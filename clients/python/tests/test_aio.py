@@ -8,7 +8,7 @@ import unittest
 import unittest.mock
 
 import l4ipc
-from l4ipc import FUNCTION_FAILED, Message, Thread, ThreadId, aio
+from l4ipc import FUNCTION_FAILED, Message, Thread, ThreadId, aio, connecting
 
 from .scripted import DONE, EXREGR, FAULT, REFUSED, STRING, WELCOME, WORDS, failed, outcome, said
 from .test_connecting import Ender, Listener, patience
@@ -220,8 +220,8 @@ class Aio(unittest.TestCase):
                     async with aio.Thread(there.folder, 3) as canceller, aio.Thread(there.folder, 2, canceller=canceller) as thread:
                         task = asyncio.ensure_future(thread.wait())
                         await asyncio.sleep(0.05)
-                        for connection, sent in zip(there.kept, (EXREGR, answer)):
-                            connection.sendall(sent)
+                        there.kept[0].sendall(20 * EXREGR)
+                        asyncio.get_running_loop().call_later(0.01, there.kept[1].sendall, answer)
                         task.cancel()
                         with self.assertRaises(asyncio.CancelledError):
                             await task
@@ -256,6 +256,37 @@ class Aio(unittest.TestCase):
         with Listener([WELCOME + EXREGR, WELCOME]) as there:
             self.assertEqual(asyncio.run(main(there)), (7, 8))
 
+    def test_a_thread_that_was_not_connected(self):
+        async def main():
+            thread = aio.Thread("here", 2)
+            for does in (thread.wait, lambda: thread.sleep(1), lambda: thread.send("echo"), aio.Names(thread).list):
+                with self.assertRaises(l4ipc.Closed) as caught:
+                    await does()
+                self.assertIn("no call is made: it was not connected, as async with does, or await thread.connect()", str(caught.exception))
+
+        asyncio.run(main())
+
+    def test_what_is_told_of_a_thread_that_was_closed(self):
+        async def main(there, ends):
+            async with aio.Thread(there.listens().folder, 1) as canceller, aio.Thread(there.folder, 2, canceller=canceller) as thread:
+                if not ends:
+                    await canceller.aclose()
+                call = asyncio.ensure_future(thread.wait())
+                await asyncio.sleep(0.05)
+                if ends:
+                    there.kept[1].sendall(WORDS)
+                call.cancel()
+                await asyncio.gather(call, return_exceptions=True)
+                self.assertEqual(thread.is_closed, not ends)
+            with self.assertRaises(l4ipc.Closed) as caught:
+                await thread.sleep(0.01)
+            return str(caught.exception).partition(", closed>: ")[2]
+
+        cause = "no call is made: a call that was cancelled has closed it, for want of a canceller= that could end the call"
+        for ends, wanted in ((True, "no call is made"), (False, cause)):
+            with self.subTest(ends=ends), Listener([WELCOME + EXREGR, WELCOME]) as there:
+                self.assertEqual(asyncio.run(main(there, ends)), wanted)
+
     def test_a_canceller_that_makes_a_call(self):
         async def main(there):
             async with aio.Thread(there.listens().folder, 1) as canceller, aio.Thread(there.folder, 2, canceller=canceller) as thread:
@@ -268,6 +299,33 @@ class Aio(unittest.TestCase):
 
         with Listener([WELCOME, WELCOME]) as there:
             self.assertTrue(asyncio.run(main(there)))
+
+    def test_a_canceller_that_connects_again_ends_no_call_of_another_server(self):
+        async def main(there, at_once):
+            async with aio.Thread(there.listens().folder, 1, reconnect=True) as canceller, aio.Thread(there.folder, 2, canceller=canceller) as thread:
+                call = asyncio.ensure_future(thread.wait())
+                await asyncio.sleep(0.05)
+                there.kept[0].close()
+                if at_once:
+                    there.kept[1].close()
+                else:  # the end of the other connection comes as the canceller has connected again
+                    connect = canceller._connect_again
+
+                    async def ending(*words):
+                        await connect(*words)
+                        there.kept[1].close()
+
+                    canceller._connect_again = ending
+                call.cancel()
+                came = await asyncio.gather(asyncio.wait_for(call, 5), return_exceptions=True)
+                return type(came[0]), thread.is_closed
+
+        for at_once in (True, False):
+            with self.subTest(at_once=at_once), Listener([WELCOME, WELCOME, WELCOME + EXREGR]) as there:
+                self.assertEqual(asyncio.run(main(there, at_once)), (asyncio.CancelledError, True))
+                self.assertEqual([frame[4] for it in there.kept[2:] for frame in said(it) if frame[4] == 3], [])
+                if at_once:  # (for the server)
+                    connecting.connect(connecting.Place(there.path, 1))[0].close()
 
     def test_what_is_no_canceller(self):
         with self.assertRaises(ValueError):

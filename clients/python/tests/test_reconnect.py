@@ -1,5 +1,6 @@
 """A thread that connects again, against a server that a test gives."""
 
+import asyncio
 import os
 import socket
 import threading
@@ -8,7 +9,7 @@ import unittest
 import unittest.mock
 
 import l4ipc
-from l4ipc import Message, Thread, ThreadId, connecting
+from l4ipc import Message, Thread, ThreadId, aio, connecting, names
 
 from .scripted import WELCOME, WORDS, failed, outcome, said
 from .test_connecting import Listener
@@ -136,11 +137,161 @@ class Reconnect(unittest.TestCase):
             self.assertEqual(told, [(l4ipc.Closed, None), (l4ipc.Closed, None)])
 
 
+def found(thread, server=IN_255):
+    """What a name server answers to a look up."""
+    return outcome(1, server, words=(thread,))
+
+
+OTHER = ThreadId.of(4, 1)
+LOOKED_UP = failed(0x3) + found(FIRST)
+LOOKED_UP_AGAIN = failed(0x3) + found(OTHER)
+DOES = {"call": lambda thread, **more: thread.call("echo", Message(5), **more), "send": lambda thread, **more: thread.send("echo", Message(5), **more)}
+
+
+class Blocks:
+    """How a thread that blocks is used."""
+
+    def __init__(self, folder, **more):
+        self.thread = Thread(folder, 2, reconnect=True, **more)
+        self.names = names.Names
+
+    def run(self, came):
+        return came
+
+    def has_not_ended(self):
+        self.thread._has_ended = lambda: False
+
+    def close(self):
+        self.thread.close()
+
+
+class Coroutines:
+    """The same of a thread whose calls are coroutines."""
+
+    def __init__(self, folder, **more):
+        self.loop = asyncio.new_event_loop()
+        self.thread = aio.Thread(folder, 2, reconnect=True, **more)
+        self.names = aio.Names
+        self.run(self.thread.connect())
+
+    def run(self, came):
+        return self.loop.run_until_complete(came)
+
+    def has_not_ended(self):
+        self.thread._has_ended = lambda _: False
+
+    def close(self):
+        self.thread.close()
+        self.loop.close()
+
+
+def partners_of(connection):
+    """To whom the calls of a connection went: 0 where they were receive phases alone."""
+    return [int.from_bytes(frame[5:13], "big") for frame in said(connection)[1:] if frame[4] == 2]
+
+
+class ByNameOverLives(unittest.TestCase):
+    """The id of a name is that of one connection: over the next one it is that of any thread."""
+
+    def each(self, answers):
+        """Each kind of thread, and a server that answers its connections so."""
+        for kind in (Blocks, Coroutines):
+            for what, does in DOES.items():
+                with self.subTest(kind.__name__, does=what), Listener(answers) as there:
+                    used = kind(there.listens().folder)
+                    try:
+                        yield there, used, does
+                    finally:
+                        used.close()
+
+    def test_the_connection_has_ended_between_two_calls(self):
+        for there, used, does in self.each([WELCOME + LOOKED_UP + WORDS, AGAIN + LOOKED_UP_AGAIN + WORDS + WORDS]):
+            used.run(does(used.thread))
+            there.kept[0].close()
+            for _ in range(2):
+                used.run(does(used.thread))
+            self.assertEqual(partners_of(there.kept[1]), [0, IN_255, OTHER, OTHER])
+            self.assertEqual(used.thread.lives, 2)
+
+    def test_it_has_ended_before_the_first_call(self):
+        for there, used, does in self.each([WELCOME, AGAIN + LOOKED_UP_AGAIN + WORDS]):
+            there.kept[0].close()
+            used.run(does(used.thread))
+            self.assertEqual(partners_of(there.kept[1]), [0, IN_255, OTHER])
+
+    def test_it_has_ended_between_the_look_up_and_the_call(self):
+        for there, used, does in self.each([WELCOME + LOOKED_UP, AGAIN + LOOKED_UP_AGAIN + WORDS]):
+            partner = used.thread._book._partner
+
+            def ending(*words):
+                found = yield from partner(*words)
+                there.kept[0].close()
+                return found
+
+            with unittest.mock.patch.object(used.thread._book, "_partner", ending):
+                used.run(does(used.thread))
+            self.assertEqual(partners_of(there.kept[1]), [0, IN_255, OTHER])
+
+    def test_it_has_ended_while_the_name_server_was_looked_for(self):
+        for there, used, does in self.each([WELCOME + failed(0x5), AGAIN + LOOKED_UP_AGAIN + WORDS]):
+            live = names.live
+
+            def ending(*words):
+                was_live = yield from live(*words)
+                there.kept[0].close()
+                return was_live
+
+            with unittest.mock.patch.object(names, "live", ending):
+                used.run(does(used.thread))
+            self.assertEqual(partners_of(there.kept[1]), [0, IN_255, OTHER])
+
+    def test_the_open_call_has_failed_before(self):
+        for there, used, does in self.each([WELCOME + LOOKED_UP + WORDS, AGAIN + LOOKED_UP_AGAIN + WORDS]):
+            used.run(does(used.thread))
+            there.kept[0].shutdown(socket.SHUT_WR)
+            used.has_not_ended()  # the end comes while the call is open
+            with self.assertRaises(l4ipc.Closed):
+                used.run(does(used.thread))
+            del used.thread._has_ended
+            # (that one may have been sent, and is not made again)
+            used.run(does(used.thread))
+            self.assertEqual([partners_of(it) for it in there.kept], [[0, IN_255, FIRST, FIRST], [0, IN_255, OTHER]])
+
+    def test_nobody_has_registered_it_since(self):
+        for wait_for in (0, 0.2):
+            for there, used, does in self.each([WELCOME + LOOKED_UP + WORDS, AGAIN + failed(0x3) + found(0) * 100]):
+                used.run(does(used.thread))
+                there.kept[0].close()
+                with self.assertRaises(l4ipc.Unregistered) as caught:
+                    used.run(does(used.thread, wait_for=wait_for))
+                self.assertEqual(caught.exception.waited, wait_for or None)
+                self.assertEqual(set(partners_of(there.kept[1])), {0, IN_255})
+
+    def test_a_name_server_of_a_lower_version(self):
+        old, registered = ThreadId.of(255, 4), found(ThreadId.of(2, 1), ThreadId.of(255, 4))
+        for kind in (Blocks, Coroutines):
+            with self.subTest(kind.__name__), Listener([WELCOME + 3 * failed(0x5) + failed(0x3) + registered, AGAIN + failed(0x3) + found(ThreadId.of(2, 2))]) as there:
+                used = kind(there.listens().folder)
+                asked = used.names(used.thread)
+                self.assertEqual(used.run(asked.register("echo")), ThreadId.of(2, 1))
+                self.assertEqual(partners_of(there.kept[0]), [0, 0, 0, 0, old])
+                used.thread.kept.names.clear()  # what the thread registers again by itself is another matter
+                there.kept[0].close()
+                self.assertEqual(used.run(asked.register("echo")), ThreadId.of(2, 2))
+                self.assertEqual(partners_of(there.kept[1]), [0, IN_255])
+                used.close()
+
+    def test_connections_that_all_end_at_once(self):
+        with Listener([WELCOME, AGAIN], ends=True) as there:
+            thread = Thread(there.listens().folder, 2, reconnect=True)
+            there.kept[0].close()
+            with self.assertRaises(l4ipc.Closed):
+                thread.call("echo")
+            thread.close()
+
+
 class ByName(unittest.TestCase):
     def test_a_name_that_moves(self):
-        def found(thread):
-            return outcome(1, IN_255, words=(thread,))
-
         answers = WELCOME + failed(0x3) + found(0) + found(FIRST) + WORDS + WORDS + failed(0x4) + found(ThreadId.of(1, 2)) + WORDS
         with Listener([answers]) as there:
             thread = Thread(there.listens().folder, 2)

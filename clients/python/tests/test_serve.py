@@ -89,6 +89,40 @@ class Serve(unittest.TestCase):
         self.assertIn("function: a Message or None as its answer is wanted, and not 42 (int)", logged_by(self, WORDS, lambda request: 42).output[0])
         self.assertIn("ZeroDivisionError", logged_by(self, WORDS, lambda request: 1 // 0).output[0])
 
+    def test_what_the_logger_says_of_an_inner_call(self):
+        thread, server = scripted(WORDS + failed(0x4) + REFUSED[:-1] + b"\5" + WORDS + failed(0x4))
+        inner = []
+
+        def answer(request):
+            if inner:
+                return Message()
+            inner.append(request.sender)
+            thread.call(ThreadId.of(999, 1))
+
+        thread._connection.settimeout(5)
+        with self.assertLogs("l4ipc") as logged:
+            thread.serve(answer)
+        server.close()
+        self.assertEqual([record.levelname for record in logged.records], ["ERROR", "WARNING", "WARNING", "WARNING"])
+        failure, refused, unsent, _ = logged.output
+        self.assertIn("the message of 1.1 failed the server's function\nTraceback", failure)
+        self.assertIn("thread.call(ThreadId.of(999, 1))", failure)
+        self.assertIn("l4ipc.errors.NoPartner: 2.1: send phase to 999.1: non-existing partner", failure)
+        self.assertIn("1.1 was not answered: <Thread 2.1>: refused K5", refused)
+        self.assertIn("1.1 was not answered: 2.1: send phase to 1.1", unsent)
+
+    def test_a_coroutine_function(self):
+        async def answer(request):
+            return Message()
+
+        thread, server = scripted(WORDS)
+        with self.assertRaises(TypeError) as caught:
+            thread.serve(answer)
+        self.assertIn("is a coroutine function, which serve of l4ipc.aio takes", str(caught.exception))
+        self.assertEqual(len(said(server)), 1)
+        thread.close()
+        server.close()
+
     def test_a_late_answer_of_a_name_server_is_no_request(self):
         late, came = outcome(1, NAMES, words=(2 << 32 | 1,)), []
         thread, server = scripted(failed(0x3) + failed(0x3) + late + WORDS + late)

@@ -21,7 +21,7 @@ from .exchanging import Exchanged, exchange_frame, exchanged
 from .message import Buffer, Message, Received
 from .names import Book, live, live_version
 from .serving import Telling
-from .steps import Answer, Ipc, Pause, Step, Steps
+from .steps import Answer, Ipc, Pause, Ready, Step, Steps
 from .thread import LEAST_WAIT, Partner
 from .waiting import Wait, end_of, left_until, pauses
 from .words import ANYLOCALTHREAD, ANYTHREAD, NILTHREAD, ThreadId, timeouts
@@ -65,6 +65,11 @@ class Thread(Caller):
         if canceller is not None and os.path.realpath(canceller._place.path) != os.path.realpath(self._place.path):
             raise ValueError(f"canceller: {canceller!r} is no thread of the same space")
         return canceller
+
+    def _no_call_is_made(self) -> Closed:
+        if self._connection is None and not self._is_closed:
+            return Closed(f"{self!r}: no call is made: it was not connected, as async with does, or await thread.connect()")
+        return super()._no_call_is_made()
 
     async def connect(self) -> "Thread":
         """Connects, once."""
@@ -178,7 +183,7 @@ class Thread(Caller):
         times = timeouts(None, seconds, receive_name="seconds")
         await self._ready()
         try:
-            await self._ipc(NILTHREAD, self.id, NO_MESSAGE, times)
+            await self._ipc(NILTHREAD, self.id, NO_MESSAGE, times, (), True)
         except Timeout as end:
             if end.phase != RECEIVE:
                 raise
@@ -187,6 +192,10 @@ class Thread(Caller):
         """L4_ExchangeRegisters."""
         frame = exchange_frame(dest, send, receive)
         await self._ready()
+        return await self._exchange_registers(frame)
+
+    async def _exchange_registers(self, frame: bytes) -> Optional[Exchanged]:
+        """The same, over the connection that is there."""
         answer = await self._ask(frame, frames.Exchanged)
         self.last_moment = answer.moment
         return exchanged(answer)
@@ -227,14 +236,16 @@ class Thread(Caller):
             return await _answer_of(step)
         if isinstance(step, Pause):
             await asyncio.sleep(step.seconds)
+        elif isinstance(step, Ready):
+            await self._ready()
         else:
             await self._connect_again(None)
         return None
 
     async def _ipc(
-        self, to: int, from_specifier: int, message: Message, times: int, buffers: Sequence[Buffer] = (), is_answer: bool = False
+        self, to: int, from_specifier: int, message: Message, times: int, buffers: Sequence[Buffer] = (), same_life: bool = False
     ) -> Optional[Received]:
-        await self._ready(is_answer)
+        await self._ready(same_life)
         kept = self._kept_from(from_specifier)
         call = calls.call(self.id, to, NILTHREAD if kept else from_specifier, message, times, buffers)
         if kept is None:
@@ -257,16 +268,16 @@ class Thread(Caller):
 
     # The connection.
 
-    async def _ready(self, is_answer: bool = False) -> None:
+    async def _ready(self, same_life: bool = False) -> None:
         """The thread is connected: again, where the connection has ended and that is asked for. Nothing was sent yet."""
         if self._is_closed or self._connection is None:
             raise self._no_call_is_made()
         if not self.reconnects or self.kept.is_busy or self._over is not None:
             return
         if self._is_lost or self._has_ended(self._connection):
-            if is_answer:
+            if same_life:
                 self._close()
-                raise Closed(f"{self!r}: the connection has ended over which the message came")
+                raise self._partner_is_lost()
             try:
                 await self._connect_again(self._place.wait_for)
             except OSError as error:
@@ -356,11 +367,10 @@ class Thread(Caller):
             is_sent = True
             return await self._hear(connection)
         except asyncio.CancelledError:
-            self._closed_by = "a call that was cancelled has closed it, for want of a canceller= that could end the call"
             if not is_sent or call is None or self._canceller is None:
-                self._close()
+                self._close_by_a_cancel()
             else:
-                with suppress(L4Error, RuntimeError):  # a canceller that cannot end the call: the thread is closed
+                with suppress(L4Error, RuntimeError, OSError, EOFError):  # a canceller that cannot end the call: the thread is closed
                     await self._end_call(self._canceller, connection, call)
             raise
         except BaseException:
@@ -384,16 +394,19 @@ class Thread(Caller):
         """Ends the open call by ExchangeRegisters, and keeps a message that has come all the same. It is tried until the call is over,
         since the server may see ExchangeRegisters before it sees the call."""
         try:
-            for pause in pauses(None, 0.05):
-                await canceller.cancel(self.id)
-                end = self._what_is_there(connection)
-                if end is not None:
-                    break
-                await asyncio.sleep(pause)
-            self._keep(call, self._frame_until(end or 0))
+            waiting = pauses(None, 0.05)
+            while self._what_is_there(connection) is None:
+                await canceller.cancel(self.id, lambda: self._what_is_there(connection) is None)
+                if self._what_is_there(connection) is None:
+                    await asyncio.sleep(next(waiting))
+            self._keep(call, self._frame_until(self._arrived() or 0))
         except BaseException:
-            self._close()
+            self._close_by_a_cancel()
             raise
+
+    def _close_by_a_cancel(self) -> None:
+        self._lose_by("a call that was cancelled has closed it, for want of a canceller= that could end the call")
+        self._close()
 
     def _what_is_there(self, connection: socket.socket) -> Optional[int]:
         """Takes what has arrived, without waiting; where the next frame ends, if it is whole."""
@@ -415,12 +428,14 @@ class Thread(Caller):
         if received is not None and call.to != call.from_specifier:
             self._kept.append(received)
 
-    async def cancel(self, dest: int) -> None:
-        """Cancels both phases of a thread of the own space. Those who ask for it at one time come one after another."""
+    async def cancel(self, dest: int, is_open: Callable[[], bool] = lambda: True) -> None:
+        """Cancels both phases of a thread of the own space, if its call is still open once this thread is connected, where it connects again:
+        else its id is that of another l4d. Those who ask for it at one time come one after another."""
         if self._queue is None:
             raise Closed(f"{self!r}: no call is made")
         async with self._queue:
-            if await self.exchange_registers(dest, send=True, receive=True) is None:
+            await self._ready()
+            if is_open() and await self._exchange_registers(exchange_frame(dest, True, True)) is None:
                 raise Closed(f"{self!r}: {ThreadId(dest)} is no live thread of its space")
 
 

@@ -68,6 +68,12 @@ class Caller:
         """What a call of a thread raises that is closed, or not connected."""
         return Closed(f"{self!r}: no call is made{self._closed_by and f': {self._closed_by}'}")
 
+    def _partner_is_lost(self) -> Closed:
+        """What a call raises whose partner was known by the connection that has ended: the id is that of any thread of another l4d."""
+        error = Closed(f"{self!r}: the connection has ended over which its partner was known; nothing was sent")
+        error.partner_is_lost = True
+        return error
+
     def _connected_as(self, own: ThreadId) -> None:
         """A connection is there, whose thread has this id."""
         self.id = own
@@ -88,6 +94,13 @@ class Caller:
         """The connection has ended. A thread that connects again is not closed by that."""
         self._is_lost = True
         self._is_closed = self._is_closed or not self.reconnects
+
+    def _lose_by(self, cause: str) -> None:
+        """The same, by what is told later, unless the thread was closed before, or connects again."""
+        was_closed = self._is_closed
+        self._lose()
+        if self._is_closed and not was_closed:
+            self._closed_by = cause
 
     def _stays_closed(self) -> None:
         """A thread that was closed while it waited for l4d does not connect any more."""

@@ -14,10 +14,12 @@ RECEIVE = "receive"
 class L4Error(Exception):
     """Anything that a call of this package raises, but for wrong arguments, and for an ``OSError`` where it cannot connect.
 
-    ``kept_name`` is the name that a thread could not register again by itself, where the error is of that.
+    ``kept_name`` is the name that a thread could not register again by itself, where the error is of that. ``is_of_answer`` says that a server's
+    loop could not send an answer.
     """
 
     kept_name: Optional[str] = None
+    is_of_answer = False
 
 
 @dataclass(frozen=True)
@@ -206,7 +208,12 @@ class Fault(L4Error):
 
 
 class Closed(L4Error):
-    """The connection has ended: the server ended, the thread was closed, or an earlier call ended it."""
+    """The connection has ended: the server ended, the thread was closed, or an earlier call ended it.
+
+    ``partner_is_lost`` says that it had ended before the call, whose partner was known by that connection alone, so that nothing was sent.
+    """
+
+    partner_is_lost = False
 
 
 class BadFrame(L4Error):

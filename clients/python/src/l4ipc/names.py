@@ -5,10 +5,10 @@ import time
 from typing import TYPE_CHECKING, Dict, Iterator, List, Optional, Set, Tuple
 
 from . import arguments, protocol, steps
-from .errors import SEND, Circumstances, IpcError, L4Error, NoPartner, Refused, Timeout
+from .errors import SEND, Circumstances, Closed, IpcError, L4Error, NoPartner, Refused, Timeout
 from .errors import seconds as in_words
 from .message import Buffer, Message, Received
-from .steps import Ipc, Pause, Steps
+from .steps import Ipc, Pause, Ready, Steps
 from .waiting import TOLD_AFTER, Wait, end_of, left_until, pauses_until
 from .words import NILTHREAD, ThreadId, timeouts
 
@@ -146,9 +146,16 @@ class Book:
         if not hasattr(thread, "lives"):
             raise arguments.wanted("thread", "a Thread is", thread)
         self._thread = thread
-        self._life = thread.lives
+        self._life = thread.lives or 1  # (a thread of coroutines may not be connected yet)
         self._timeout = arguments.seconds_or_none("timeout", timeout)
-        self.server = None if server is None else ThreadId(arguments.thread_id("server", server))
+        self._server = None if server is None else ThreadId(arguments.thread_id("server", server))
+
+    @property
+    def server(self) -> Optional[ThreadId]:
+        """The name server, where it was found over the connection that is there: over another one its id is that of any thread."""
+        if self._life != self._thread.lives:
+            self._life, self._server = self._thread.lives, None
+        return self._server
 
     def _times(self, end: Optional[float], is_wait: bool) -> int:
         """The timeouts of a request. Of a wait that has an end each phase has half of what is left, so that both together keep to it.
@@ -166,31 +173,45 @@ class Book:
     def ask(
         self, label: int, name: bytes, originator: Optional[int] = None, end: Optional[float] = None, is_wait: bool = False
     ) -> Steps[Received]:
-        """A request, of a wait until this moment. The name server is looked for where it is not known, and again where it has ended."""
-        if self._life != self._thread.lives:
-            self._life, self.server = self._thread.lives, None
+        """A request, of a wait until this moment. The name server is looked for where it is not known, and again where it has ended.
+
+        It is looked for from the first version on where the connection had ended: then the request is sent over the next one.
+        """
         message = Message(label, strings=[name], originator=originator)
         buffers: List[Buffer] = [MAX_NAME_BYTES] if label == LIST else []
-        first = 1
+        first, has_ended = 1, False
         while True:
-            if self.server is None:
-                self.server = yield from live_version(NUMBER, first)
-                if self.server is None:
-                    raise NoNames from None
+            server = self.server or NILTHREAD
             try:
-                answer: Received = yield Ipc(self.server, self.server, message, self._times(end, is_wait), buffers)
+                if not server:
+                    server = self._server = yield from self._live_server(first)
+                answer: Received = yield Ipc(server, server, message, self._times(end, is_wait), buffers, True)
                 break
             except NoPartner:
-                first, self.server = self.server.version + 1, None
+                first, self._server = server.version + 1, None
+            except Closed as error:
+                if not error.partner_is_lost:
+                    raise
+                if has_ended:  # and over the connection that was made anew, too
+                    raise Closed(str(error)) from None
+                first, has_ended = 1, True
+                yield Ready()
             except IpcError as error:
                 if error.delivered:
-                    self._thread.kept.owing.add(self.server)
+                    self._thread.kept.owing.add(server)
                 raise
         if answer.label:
             raise NameFault(answer.label, ThreadId(answer.words[0] if answer.words else 0), name.decode("utf-8"))
         if len(answer.words) != 1:
-            raise L4Error(f"{self.server} is no name server")
+            raise L4Error(f"{server} is no name server")
         return answer
+
+    def _live_server(self, first: int) -> Steps[ThreadId]:
+        """The name server that is there, from this version on."""
+        server = yield from live_version(NUMBER, first, True)
+        if server is None:
+            raise NoNames from None
+        return server
 
     def register(
         self, name: str, originator: Optional[int] = None, end: Optional[float] = None, is_wait: bool = False
@@ -288,23 +309,34 @@ class Book:
             raise failure
 
     def call(self, name: str, step: Ipc, is_call: bool, wait_for: Optional[float]) -> Steps[Optional[Received]]:
-        """A message to who has a name. Where that one has ended the name is looked up again; nothing was sent then."""
+        """A message to who has a name. Where that one has ended the name is looked up again, and where the connection has; nothing was sent then.
+
+        The seconds begin anew with another connection: its partner may have to connect again, too.
+        """
         found, seconds = self._thread.kept.found, arguments.seconds_or_none("wait_for", wait_for)
         end, waiting = _until_there(seconds)
-        wait = Wait(seconds)
+        wait, life = Wait(seconds), self._thread.lives
         while True:
             was_known = name in found
             try:
                 partner = found[name] if was_known else (yield from self._partner(name, end, seconds is None))
                 wait.is_over(f"{name} is {partner}")
-                received: Optional[Received] = yield step._replace(to=partner, from_specifier=partner if is_call else NILTHREAD)
+                received: Optional[Received] = yield step._replace(
+                    to=partner, from_specifier=partner if is_call else NILTHREAD, same_life=True
+                )
                 return received
+            except Closed as error:
+                if not error.partner_is_lost:
+                    raise
+                yield Ready()
+                continue
             except (NoPartner, NoNames, Unanswered) as missing:
                 if isinstance(missing, NoPartner) and missing.phase != SEND:
                     raise
                 found.pop(name, None)
+                if was_known or life != self._thread.lives:
+                    (end, waiting), life = _until_there(seconds), self._thread.lives
                 if was_known:
-                    end, waiting = _until_there(seconds)
                     continue
                 pause = next(waiting, None)
                 if pause is None:
@@ -329,10 +361,10 @@ def is_name(to: str) -> bool:
     return not _IS_AN_ID.fullmatch(to)
 
 
-def live(other: int) -> Steps[bool]:
+def live(other: int, same_life: bool = False) -> Steps[bool]:
     """`is_live`."""
     try:
-        yield steps.receive(other, 0)
+        yield steps.receive(other, 0)._replace(same_life=same_life)
     except NoPartner:
         return False
     except IpcError:
@@ -340,11 +372,11 @@ def live(other: int) -> Steps[bool]:
     return True
 
 
-def live_version(number: int, first: int) -> Steps[Optional[ThreadId]]:
-    """`live_thread`."""
+def live_version(number: int, first: int, same_life: bool = False) -> Steps[Optional[ThreadId]]:
+    """`live_thread`; where all versions are to be looked for over one connection, it fails where that has ended."""
     for version in range(first, MAX_VERSION + 1):
         other = ThreadId.of(number, version)
-        if (yield from live(other)):
+        if (yield from live(other, same_life)):
             return other
     return None
 

@@ -1,6 +1,7 @@
 """The loop of a server: it answers each message, tells what it could not answer, and goes on."""
 
 import logging
+from inspect import iscoroutinefunction
 from typing import TYPE_CHECKING, Callable, Optional, Sequence
 
 from . import arguments, steps
@@ -42,7 +43,7 @@ def log(error: Exception, request: Optional[Received]) -> None:
         _log.warning("l4ipc: the name %s could not be registered again, and is tried again: %s", kept_name, error)
     elif request is None:
         _log.warning("l4ipc: %s", error)
-    elif isinstance(error, (IpcError, Refused)):
+    elif isinstance(error, L4Error) and error.is_of_answer:
         _log.warning("l4ipc: %s was not answered: %s", request.sender, error)
     else:
         _log.error("l4ipc: the message of %s failed the server's function", request.sender, exc_info=error)
@@ -63,6 +64,8 @@ class Loop:
 
     def __init__(self, thread: "Caller", function: Answering, buffers: Sequence[Buffer], tell: Telling, awaits: bool = False) -> None:
         check_arguments(function, buffers, tell)
+        if iscoroutinefunction(function) and not awaits:
+            raise TypeError(f"function: {arguments.shown(function)} is a coroutine function, which serve of l4ipc.aio takes")
         self.awaits = awaits
         self.thread, self.function, self.buffers, self.tell = thread, function, buffers, tell
         self.request: Optional[Received] = None
@@ -112,6 +115,8 @@ class Loop:
 
     def failed(self, error: Exception, answered: Optional[Received]) -> float:
         """Tells that a call failed; how many seconds to wait before the next one. What does not pass is raised."""
+        if isinstance(error, L4Error):
+            error.is_of_answer = answered is not None
         if isinstance(error, IpcError):
             if not (isinstance(error, Timeout) and error.phase == RECEIVE):
                 self.tell(error, answered if error.phase == SEND else None)

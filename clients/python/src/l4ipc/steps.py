@@ -22,14 +22,18 @@ STARTED_AGAIN = "a server that was started again has a later version: its name, 
 
 
 class Ipc(NamedTuple):
-    """One Ipc: what came of it is its message."""
+    """One Ipc: what came of it is its message.
+
+    Where its partner is known by the connection that is there, as who asked, or who was found by a name, it is of the ``same_life``: it is not
+    made over another connection: where a thread that connects again has lost that one it fails with `Closed`, whose ``partner_is_lost`` is true.
+    """
 
     to: int
     from_specifier: int
     message: Message = NO_MESSAGE
     times: int = 0
     buffers: Sequence[Buffer] = ()
-    is_answer: bool = False
+    same_life: bool = False
 
 
 class Pause(NamedTuple):
@@ -45,11 +49,15 @@ class Answer(NamedTuple):
     request: Received
 
 
+class Ready(NamedTuple):
+    """The thread connects again, where its connection has ended: as before any call."""
+
+
 class ConnectAgain(NamedTuple):
     """The thread connects again; it waits for l4d without an end."""
 
 
-Step = Union[Ipc, Pause, Answer, ConnectAgain]
+Step = Union[Ipc, Pause, Answer, Ready, ConnectAgain]
 Steps = Generator[Step, Any, _Result]
 
 

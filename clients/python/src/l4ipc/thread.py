@@ -15,7 +15,7 @@ from .exchanging import Exchanged, exchange_frame, exchanged
 from .message import NO_BUFFERS, Buffer, Message, Received
 from .names import is_name
 from .serving import Answering, Telling
-from .steps import Ipc, Pause, Step, Steps
+from .steps import Ipc, Pause, Ready, Step, Steps
 from .words import ANYTHREAD, NILTHREAD, ThreadId, timeouts
 
 LEAST_WAIT = 1.0
@@ -199,7 +199,7 @@ class Thread(Caller):
         times = timeouts(None, seconds, receive_name="seconds")
         self._ready()
         try:
-            self._ipc(NILTHREAD, self.id, NO_MESSAGE, times)
+            self._ipc(NILTHREAD, self.id, NO_MESSAGE, times, (), True)
         except Timeout as end:
             if end.phase != RECEIVE:
                 raise
@@ -297,10 +297,10 @@ class Thread(Caller):
         return self._no_call_is_made() if self._is_closed else RuntimeError("no call was begun")
 
     def _begin_call(
-        self, to: int, from_specifier: int, message: Message, times: int, buffers: Sequence[Buffer], is_answer: bool = False
+        self, to: int, from_specifier: int, message: Message, times: int, buffers: Sequence[Buffer], same_life: bool = False
     ) -> None:
         call = calls.call(self.id, to, from_specifier, message, times, buffers)
-        self._ready(is_answer)
+        self._ready(same_life)
         if not self._call.acquire(False):
             raise RuntimeError("another call of this thread is open")
         try:
@@ -332,15 +332,17 @@ class Thread(Caller):
         """A step that is no Ipc."""
         if isinstance(step, Pause):
             time.sleep(step.seconds)
+        elif isinstance(step, Ready):
+            self._ready()
         else:
             self._connect_again(None)
         return None
 
     def _ipc(
-        self, to: int, from_specifier: int, message: Message, times: int, buffers: Sequence[Buffer] = (), is_answer: bool = False
+        self, to: int, from_specifier: int, message: Message, times: int, buffers: Sequence[Buffer] = (), same_life: bool = False
     ) -> Optional[Received]:
         if self.reconnects:
-            self._ready(is_answer)
+            self._ready(same_life)
         frame = None
         if message.__class__ is Message and to and from_specifier and not buffers:
             frame = calls.plain_frame(to, from_specifier, message, times)
@@ -361,19 +363,19 @@ class Thread(Caller):
 
     # The connection.
 
-    def _ready(self, is_answer: bool = False) -> None:
+    def _ready(self, same_life: bool = False) -> None:
         """The thread is connected: again, where the connection has ended and that is asked for. Nothing was sent yet.
 
-        An answer goes to who asked over the same connection: it fails where that has ended.
+        What goes to a partner that is known by the same connection fails where that has ended.
         """
         if self._is_closed:
             raise self._no_call_is_made()
         if not self.reconnects or self.kept.is_busy or self._begun is not None:
             return
         if self._is_lost or self._has_ended():
-            if is_answer:
+            if same_life:
                 self._close()
-                raise Closed(f"{self!r}: the connection has ended over which the message came")
+                raise self._partner_is_lost()
             try:
                 self._connect_again(self._place.wait_for)
             except OSError as error:
@@ -437,7 +439,7 @@ class Thread(Caller):
             raise Closed(f"{self!r}: the connection has ended, with l4d or by it") from (None if isinstance(end, EOFError) else end)
         except BaseException as error:
             if not isinstance(error, Exception):
-                self._closed_by = "a call that was interrupted has closed it"
+                self._lose_by("a call that was interrupted has closed it")
             self._close()
             raise
         finally:

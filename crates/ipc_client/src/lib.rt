@@ -24,7 +24,7 @@ pub use error::ClientError;
 pub use laws::{laid_out_strings_are_read, messages_fit_frames};
 pub use message::{Buffers, Message};
 pub use message_fault::{BufferFault, MessageFault};
-pub use patient::{PATIENCE, PatientStream, Untold, Waiter, await_end, is_late};
+pub use patient::{FIRST_WAIT, PATIENCE, PatientStream, Untold, Waiter, await_end, is_late};
 pub use reading::read_frame;
 pub use received::Received;
 pub use start::Start;

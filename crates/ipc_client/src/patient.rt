@@ -9,7 +9,7 @@ use std::time::Duration;
 pub const PATIENCE: u64 = 10;
 
 /// After how much of that who waits is told, in seconds.
-const FIRST_WAIT: u64 = 2;
+pub const FIRST_WAIT: u64 = 2;
 
 /// Who waits for the first answer of a server.
 pub trait Waiter {

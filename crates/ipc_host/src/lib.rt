@@ -2,10 +2,12 @@
 //! signals, the connections that are there, whom to tell of them, and why something fails.
 #![tactic(auto)]
 
+mod address;
 mod admission;
 mod clock;
 mod counts;
 mod datagram;
+mod dialling;
 mod eager;
 mod error_lines;
 mod guest;
@@ -26,6 +28,7 @@ mod thread_socket;
 pub use admission::Admission;
 pub use clock::ServerClock;
 pub use counts::Counts;
+pub use dialling::connect_within;
 pub use eager::EagerStream;
 pub use error_lines::{ErrorLines, takes_lines};
 pub use guest::is_overdue;

@@ -4,8 +4,8 @@ ghost use Rattle.l4sh.specs.Talking.{EndsOver};
 use crate::asking::connect_reason;
 use crate::prompted::Watch;
 use ipc_base::{Failures, Past, PortRead, PortWrite, ReadPort, WritePort};
-use ipc_client::{Client, PATIENCE, PatientStream, Waiter, await_end};
-use ipc_host::{NotingReader, NotingWriter};
+use ipc_client::{Client, FIRST_WAIT, PATIENCE, PatientStream, Waiter, await_end};
+use ipc_host::{NotingReader, NotingWriter, connect_within};
 use l4sh_options::TalkOptions;
 use l4sh_talk::{Ending, talk_to};
 use std::alloc::{AllocError, Global};
@@ -13,6 +13,8 @@ use std::io::{self, ErrorKind};
 use std::marker::Brand;
 use std::net::Net;
 use std::os::unix::net::UnixStream;
+use std::rt::Clock;
+use std::sync::Wait;
 use std::sync::atomic::{AtomicBool, Ordering};
 use std::sync::ledger::{Blank, Ledger};
 
@@ -45,7 +47,7 @@ impl<N: Eprint> Waiter for Typist<'_, N> {
 /// watched while the reader waits, which may end the talk.
 ///
 /// It ends as `DeviceFailed` only where a call of the reader or of the writer failed in this talk.
-pub fn talk_to_server<N: Net + Eprint, R: PortRead, W: PortWrite>(
+pub fn talk_to_server<N: Net + Wait + Clock + Eprint, R: PortRead, W: PortWrite>(
     rt: &N,
     alloc: Global,
     options: &TalkOptions<'_>,
@@ -75,7 +77,7 @@ pub fn talk_to_server<N: Net + Eprint, R: PortRead, W: PortWrite>(
 }
 
 // Connects to a path, and talks as the thread of this number.
-fn talk_at<N: Net + Eprint, R: PortRead, W: PortWrite>(
+fn talk_at<N: Net + Wait + Clock + Eprint, R: PortRead, W: PortWrite>(
     rt: &N,
     alloc: Global,
     path: &str,
@@ -88,7 +90,8 @@ fn talk_at<N: Net + Eprint, R: PortRead, W: PortWrite>(
         → R.failures reader.old + W.failures writer.old
         < R.failures reader.new + W.failures writer.new }
 {
-    match UnixStream::connect(rt, path) {
+    let typist = Typist { rt, path };
+    match connect_within(rt, path, PATIENCE, FIRST_WAIT, || typist.note_wait()) {
         Ok(stream) => talk_along(rt, alloc, path, &stream, number, watch, reader, writer),
         Err(error) => Talked {
             ending: Ending::NoServer,
@@ -105,6 +108,12 @@ fn space_reason(alloc: Global, path: &str, error: &io::Error) -> Result<String, 
         ),
         ErrorKind::PermissionDenied => format!(in alloc;
             "{path}: {error}: only the user whose l4d serves there may connect, root, and whom its --mode lets in"
+        ),
+        ErrorKind::InvalidFilename => {
+            format!(in alloc; "{path}: {error}: that of a socket has at most 107 bytes")
+        }
+        ErrorKind::TimedOut => format!(in alloc;
+            "{path}: {error}: as many connections wait there as the system lets wait: its l4d is full or stopped, and l4sh state asks it by another path"
         ),
         _ => connect_reason(alloc, path, error),
     }

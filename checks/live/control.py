@@ -180,7 +180,7 @@ def counters_of(server):
     return dict(line.split(" ") for line in server.ask(b"counters\n").splitlines())
 
 
-def check_askers(l4d):
+def check_askers(l4d, l4sh):
     """Those who ask badly hold up nobody."""
     with Server(l4d) as server, Thread(server.folder, 1):
         state = "1.1  space 1  free\n"
@@ -201,11 +201,21 @@ def check_askers(l4d):
         check("soon", time.monotonic() - began < 10, time.monotonic() - began)
         for asker in crowd:
             asker.close()
+        check("l4sh says that many ask", wait_until(lambda: says_many(l4sh, server)), tool(l4sh, "state", server.folder))
         mute = server.connect()
         took = server.end()
         check("who says nothing does not keep a server that ends", took < 10, took)
         mute.close()
         check("the paths are gone", os.listdir(server.folder) == [], os.listdir(server.folder))
+
+
+def says_many(l4sh, server):
+    """Whether l4sh says so beside a crowd of those who say nothing."""
+    crowd = [server.connect() for _ in range(CROWD)]
+    status, out, error = tool(l4sh, "state", server.folder)
+    for asker in crowd:
+        asker.close()
+    return (status, out) == (1, "") and error.startswith(f"l4sh: {server.folder}/control: l4d closed the connection, as where 8 ask at one time")
 
 
 def ask_and_end(server, word=b"state\n"):
@@ -338,7 +348,7 @@ def main(arguments):
     l4d, l4sh = programs_of(arguments, __doc__, 2)
     check_hang(l4d, l4sh)
     check_counters(l4d, l4sh)
-    check_askers(l4d)
+    check_askers(l4d, l4sh)
     check_path(l4d, l4sh)
     check_threads(l4d)
     return tally.end()

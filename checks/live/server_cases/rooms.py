@@ -182,9 +182,12 @@ def few_tasks():
     if left_out := without_limits():
         return left_out
     # of one of the two it is the first worker of a connection that cannot be started, of the other one the second
+    followed = set()
     for tasks in (TASKS, TASKS + 1):
         for log in ((), ("--log",)):
-            said = few_tasks_of(tasks, log)
+            said = few_tasks_of(tasks, log, followed)
+    # who asks gets a worker of his own where one is left
+    assert followed == {"no worker is left for one who follows: ask again\n", "no trace: start l4d with --trace, as --trace /dev/null\n"}, followed
     return said
 
 
@@ -205,8 +208,26 @@ def limited(folder, tasks, *words):
     return subprocess.Popen([*run_as, place, "--dir", folder, "--spaces", "1", *words], stdin=subprocess.DEVNULL, stdout=subprocess.PIPE, stderr=subprocess.PIPE)
 
 
-def few_tasks_of(tasks, log):
-    """The same, with so many tasks."""
+def asked(folder, word):
+    """What the server of a folder answers who asks."""
+    with socket.socket(socket.AF_UNIX) as asker:
+        asker.settimeout(30)
+        asker.connect(f"{folder}/control")
+        asker.sendall(f"{word}\n".encode())
+        return b"".join(iter(lambda: asker.recv(65_536), b"")).decode()
+
+
+def told_to_followers(folder):
+    """What is answered to those who would follow, one behind the other: the worker of who asked before may not have ended when the next one asks."""
+    answers = set()
+    for _ in range(10):
+        answers.add(asked(folder, "trace follow"))
+        time.sleep(0.1)
+    return answers
+
+
+def few_tasks_of(tasks, log, followed):
+    """The same, with so many tasks; what is answered to who would follow."""
     with tempfile.TemporaryDirectory() as folder, limited(folder, tasks, *log) as process:
         try:
             assert process.stdout.readline() == b"listening 1\n", process.communicate()
@@ -218,6 +239,10 @@ def few_tasks_of(tasks, log):
                     refused += 1
             assert refused and len(clients) >= 2, (refused, len(clients))
             pair_works(clients[:2])
+            # with no worker of their own they are answered, too, one behind the other
+            for word, answer in 3 * [("state", "1.1  space 1  "), ("counters", "connections ")]:
+                assert answer in asked(folder, word), (word, asked(folder, word))
+            followed |= told_to_followers(folder)
             for client in clients[1:]:
                 client.line.sendall(BYE)
             time.sleep(0.3)

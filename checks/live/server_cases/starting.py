@@ -1,7 +1,10 @@
 """Words, paths, permissions, and how who starts it learns that it is ready."""
 
+import fcntl
 import os
+import pty
 import re
+import select
 import shutil
 import socket
 import stat
@@ -9,7 +12,7 @@ import subprocess
 import tempfile
 import time
 
-from server_cases.running import PROGRAM, has, run, served
+from server_cases.running import BLOCKED, PROGRAM, has, run, served
 from serving import Client, pair_works
 
 MODES = (("888", "--mode: octal, 0 to 777, got 888"), ("rw", "--mode: octal, 0 to 777, got rw"), ("1777", "--mode: octal, 0 to 777, got 1777"))
@@ -181,4 +184,23 @@ def ready():
             server.process.kill()
             err = server.end()[2]
             has(err, "l4d: --ready-fd: it cannot be told", "Broken pipe", "l4d: NOTIFY_SOCKET: it cannot be told", "No such file")
-    return "a line on the descriptor, READY=1 at a path and at a name; what fails is told, and it serves"
+    ready_at_a_terminal()
+    return "a line on the descriptor, also one past 9 at a terminal, READY=1 at a path and at a name; what fails is told, and it serves"
+
+
+def ready_at_a_terminal():
+    """The process that waits there for the second Ctrl-C keeps no descriptor open, whatever its number is."""
+    ours, theirs = pty.openpty()
+    with tempfile.TemporaryDirectory() as folder, os.fdopen(ours), os.fdopen(theirs):
+        for least in (3, 13, 213):
+            reads, writes = os.pipe()
+            fd = fcntl.fcntl(writes, fcntl.F_DUPFD, least)
+            words = ["--dir", folder, "--spaces", "1", "--ready-fd", str(fd)]
+            process = subprocess.Popen([BLOCKED, PROGRAM, *words], pass_fds=[fd], stdin=theirs, stdout=subprocess.DEVNULL, stderr=subprocess.DEVNULL)
+            os.close(writes)
+            os.close(fd)
+            with os.fdopen(reads, "rb") as pipe:
+                assert pipe.readline() == b"listening 1\n"
+                assert select.select([pipe], [], [], 10)[0] and pipe.read() == b"", f"descriptor {fd} is open still"
+            process.terminate()
+            assert process.wait(10) == 0

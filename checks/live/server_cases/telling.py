@@ -6,6 +6,7 @@ import os
 import re
 import resource
 import signal
+import socket
 import stat
 import tempfile
 import threading
@@ -14,10 +15,10 @@ import time
 from frames import frame, hello, ipc
 from protocol_tables import FAULT, IPCR, K_NUMBER_TAKEN, REFUSED
 from server_cases.running import BLOCKED, has, run, served
-from serving import Client, pair_works
+from serving import Client, pair_works, rest_of
 
-# With more entries than these before it a trace is far behind. A call to nobody makes two; so many processes make them.
-FAR_BEHIND, CALLERS = 524_288, 2
+# So many processes make so many calls each, which are more than may wait for a trace.
+CALLERS, EACH = 2, 30_000
 # So many lines of a log are more than a pipe of four pages takes.
 LINES = 1000
 
@@ -79,32 +80,40 @@ def lines_of(pipe, read):
 
 
 def slow_trace():
-    """A trace that nobody reads holds up no client; how far it is behind is told once; and when it is read it is whole."""
+    """Who asks waits for a trace that nobody reads; that is told once; the control path answers; and when it is read all go on, and it is whole."""
     with tempfile.TemporaryDirectory() as folder:
         fifo = f"{folder}/trace"
         os.mkfifo(fifo)
         pipe = os.open(fifo, os.O_RDONLY | os.O_NONBLOCK)
-        with served("--trace", fifo, "--connections", str(CALLERS + 2)) as server:
-            begin = time.time()
-            # the pipe and the server's buffer take some lines, too
-            each = FAR_BEHIND // 2 // CALLERS + 5_000
-            callers = [call_nobody(server.path, 10 + it, each) for it in range(CALLERS)]
-            assert [os.waitpid(it, 0)[1] for it in callers] == [0] * CALLERS
-            spent, calls = time.time() - begin, CALLERS * each
-            pair_works((Client(server.path, 1), Client(server.path, 2)))
+        with served("--trace", fifo, "--connections", str(CALLERS)) as server:
+            callers = [call_nobody(server.path, 10 + it, EACH) for it in range(CALLERS)]
+            waited, behind = time.time() + 60, -1
+            while time.time() < waited and behind != (behind := behind_of(server)):
+                time.sleep(4)
+            assert all(os.waitpid(it, os.WNOHANG) == (0, 0) for it in callers), "nobody waits"
             os.set_blocking(pipe, True)
             read = []
             reader = threading.Thread(target=lines_of, args=(pipe, read))
             reader.start()
+            assert [os.waitpid(it, 0)[1] for it in callers] == [0] * CALLERS
             status, out, err = server.end(60)
             reader.join()
             os.close(pipe)
-            told = re.fullmatch(rf"l4d: {re.escape(fifo)} is a pipe: l4d waits until somebody reads it\nl4d: trace (\d+) entries behind\n", err)
-            assert (status, out) == (0, "closed\n") and told and int(told[1]) > FAR_BEHIND, (status, out, err)
-            trace = b"".join(read)
+            told = re.fullmatch(rf"l4d: {re.escape(fifo)} is a pipe: l4d waits until somebody reads it\nl4d: connections wait for the trace, which is (\d+) entries behind: "
+                                "whoever reads the pipe of --trace, or its disk, holds them up\n", err)
+            assert (status, out) == (0, "closed\n") and told and abs(int(told[1]) - behind) < 100, (status, out, err, behind)
+            trace, calls = b"".join(read), CALLERS * EACH
             assert trace.startswith(b"l4trace 2\n") and trace.endswith(b"\n")
-            assert trace.count(b"\ncalled ") == calls + 2 and trace.count(b"\nfailed ") == calls, trace.count(b"\n")
-        return f"{calls} calls in {spent:.0f} s, {told[1]} entries behind, and then a trace of {trace.count(bytes([10]))} lines"
+            assert trace.count(b"\ncalled ") == calls and trace.count(b"\nfailed ") == calls, trace.count(b"\n")
+        return f"{calls} calls, which waited at {told[1]} entries, and then a trace of {trace.count(bytes([10]))} lines"
+
+
+def behind_of(server):
+    """How many entries its trace is behind, as the control path tells."""
+    with socket.socket(socket.AF_UNIX) as asker:
+        asker.connect(f"{server.folder}/control")
+        asker.sendall(b"counters\n")
+        return int(re.search(r"^trace_entries_behind (\d+)$", rest_of(asker), re.M)[1])
 
 
 def log():

@@ -5,9 +5,10 @@ ghost use Rattle.ipc_server.specs.Doing.{ServesOne};
 ghost use Rattle.ipc_server.specs.Services.{ServesAll};
 
 use crate::admitting::{Newcomer, admit, miss};
-use crate::control::answer_askers;
+use crate::control::start_answering;
 use crate::counters::counters_now;
-use crate::lacking::tell_lack;
+use crate::lacking::{CameBy, tell_lack};
+use crate::lag::Lag;
 use crate::probe::probe;
 use crate::ready::tell_open;
 use crate::served::Served;
@@ -30,8 +31,8 @@ use std::thread;
 use std::thread::{Scope, Threads};
 use std::time::Duration;
 
-/// How long the worker of signals sleeps in each turn, in milliseconds.
-const SIGNAL_TURN: u64 = 100;
+/// How long the worker that watches sleeps in each turn, in milliseconds.
+const WATCH_TURN: u64 = 100;
 
 /// How often counters are told, in seconds.
 const LOG_TURN: u64 = 60;
@@ -79,8 +80,8 @@ where
     )
 }
 
-/// Starts the workers that no space has: the ticker, the mover, and those of signals, of counters
-/// and of who asks, where they are wanted. False where one could not be started.
+/// Starts the workers that no space has: the ticker, the mover, and those that watch, tell counters
+/// and answer who asks, where they are wanted. False where one could not be started.
 fn start_others<'s, E, C: Naming + Send, T: Ledger + Send, R>(
     scope: &Scope<'s, E>,
     server: &'s Server<'_, C, T, SocketPort, R>,
@@ -92,23 +93,32 @@ where
 {
     let ticker = start_worker(scope, move || tick(server, over)).is_ok();
     let mover = start_worker(scope, move || move_blocks(server)).is_ok();
-    let watcher = !host.has_blocked_signals(server.alloc)
-        || start_worker(scope, move || watch_signals(server, host)).is_ok();
+    let watcher = !is_watched(server, host)
+        || start_worker(scope, move || watch(server, host)).is_ok();
     let logger = !host.is_logged || start_worker(scope, move || log_counters(server, host)).is_ok();
     let answers = match &host.control {
-        Some(door) => start_worker(scope, move || answer_askers(server, host, door)).is_ok(),
+        Some(door) => start_answering(scope, server, host, door),
         None => true,
     };
     ticker && mover && watcher && logger && answers
 }
 
-/// Stops the service once SIGINT or SIGTERM has come.
-fn watch_signals<C: Naming, T: Ledger, R: Wait + Clock>(
+/// Whether there is something to watch: signals, or a trace.
+fn is_watched<C: Naming, T: Ledger, R: Wait>(
+    server: &Server<'_, C, T, SocketPort, R>,
+    host: &Host,
+) -> bool {
+    host.has_blocked_signals(server.alloc) || host.trace.goes_on(server.rt)
+}
+
+/// Stops the service once SIGINT or SIGTERM has come; tells where connections wait for the trace.
+fn watch<C: Naming, T: Ledger, R: Wait + Clock + Eprint>(
     server: &Server<'_, C, T, SocketPort, R>,
     host: &Host,
 ) {
+    let mut lag = Lag::new();
     for _ in server.rt.forever() {
-        let turn = Duration::from_millis(SIGNAL_TURN);
+        let turn = Duration::from_millis(WATCH_TURN);
         if host.guests.wait_finished(server.rt, turn) {
             return;
         }
@@ -116,6 +126,8 @@ fn watch_signals<C: Naming, T: Ledger, R: Wait + Clock>(
             host.stop(server.rt);
             return;
         }
+        let entries = server.shared.entries(server.rt) as u64;
+        lag.look(server.rt, host, entries);
     }
 }
 
@@ -267,7 +279,7 @@ where
                         );
                         if let Err(error) = started {
                             host.guests.leave(rt, ticket);
-                            tell_lack(rt, host, space, error);
+                            tell_lack(rt, host, CameBy::Space(space), error);
                         }
                     }
                 }

@@ -1,5 +1,5 @@
 //! Who comes through a path: a connection is taken in once there is room for it.
-use crate::lacking::tell_lack;
+use crate::lacking::{CameBy, tell_lack};
 use ipc_host::{Admission, Notice, SocketPort, inode_of};
 use ipc_lock::Naming;
 use ipc_tracing::{Host, Server};
@@ -35,7 +35,7 @@ pub(crate) fn admit<C: Naming, T: Ledger, R: Wait + Clock + Eprint>(
     let newcomer = newcomer_of(server, host, space, stream);
     if newcomer.is_none() && !host.guests.is_stopping(server.rt) {
         let error = io::Error::from(ErrorKind::OutOfMemory);
-        tell_lack(server.rt, host, space, error);
+        tell_lack(server.rt, host, CameBy::Space(space), error);
     }
     newcomer
 }

@@ -77,6 +77,14 @@ where
     }
 }
 
+/// How many bytes the strings of a request have.
+fn bytes_of(request: &Request) -> u64 {
+    match request {
+        Request::Enter(_, call) => call.strings().size(),
+        _ => 0,
+    }
+}
+
 /// Notes on a link what became of a request, and keeps the thread that was opened.
 fn note<G: Link>(link: &G, thread: &mut Option<ThreadId>, told: Told, entered: Entered) {
     match told {
@@ -115,6 +123,7 @@ where
 
     #[tactic(auto, using(crate::proofs::NotedLemmas::tells_asked))]
     fn ask(&mut self, request: Request) -> Told {
+        self.link.asks(bytes_of(&request));
         let (told, entered) = self.end.ask(self.server, request);
         let answer = told;
         note(&self.link, &mut self.thread, told, entered);

@@ -1,6 +1,7 @@
 //! Those who ask what the server does: they connect to the path `control`, say a word, and are
 //! answered with a text.
 use crate::counters::{CounterLines, counters_now};
+use crate::lacking::{CameBy, tell_lack};
 use ipc_host::SocketPort;
 use ipc_lock::Naming;
 use ipc_tracing::{Door, Host, NO_MEMORY, Server, answer_with_part, began_text, follow, say};
@@ -28,7 +29,7 @@ const WORD_BYTES: usize = 64;
 /// How many reads a word may come in.
 const WORD_READS: usize = 64;
 
-/// How much stack a worker has that tells what each thread does, in bytes.
+/// How much stack a worker has that may tell what each thread does, in bytes.
 const STACK: usize = 4_194_304;
 
 /// What is said to a word that asks for nothing.
@@ -44,14 +45,40 @@ const PIPED: &str = "the trace is a pipe, which is one file to its end\n";
 /// What is said where there is no trace.
 const UNTRACED: &str = "no trace: start l4d with --trace FILE\n";
 
+/// What is said to who would follow where no worker can be started for him.
+const NO_WORKER: &str = "no worker is left for one who follows: ask again\n";
+
+/// Whose time an answer takes.
+#[derive(Clone, Copy, PartialEq, Eq)]
+enum Worker {
+    /// That of a worker which was started for it.
+    Own,
+    /// That of the worker which lets in who asks: the next ones wait meanwhile.
+    Shared,
+}
+
+/// Starts the worker that answers those who ask, until the service ends. False where it cannot be
+/// started.
+pub(crate) fn start_answering<'s, E, C: Naming + Send, T: Ledger + Send, R>(
+    scope: &Scope<'s, E>,
+    server: &'s Server<'_, C, T, SocketPort, R>,
+    host: &'s Host,
+    door: &'s Door,
+) -> bool
+where
+    R: Threads + Wait + Clock + Eprint + Sync,
+{
+    start_worker(scope, move || answer_askers(server, host, door)).is_ok()
+}
+
 /// Answers those who ask, until the service ends.
-pub(crate) fn answer_askers<C: Naming + Send, T: Ledger + Send, R>(
+fn answer_askers<C: Naming + Send, T: Ledger + Send, R>(
     server: &Server<'_, C, T, SocketPort, R>,
     host: &Host,
     door: &Door,
 )
 where
-    R: Threads + Wait + Clock + Sync,
+    R: Threads + Wait + Clock + Eprint + Sync,
 {
     let rt = server.rt;
     thread::scope(thread::scope_env(), rt, |scope| {
@@ -62,12 +89,13 @@ where
             match door.accept() {
                 Ok(stream) => {
                     if let Some(stream) = admit(host, stream) {
+                        let shared = stream.try_clone();
                         let started = start_worker(
                             scope,
-                            move || serve_asker(server, host, stream),
+                            move || serve_asker(server, host, stream, Worker::Own),
                         );
-                        if started.is_err() {
-                            leave(host);
+                        if let Err(error) = started {
+                            answer_shared(server, host, shared, error);
                         }
                     }
                 }
@@ -75,6 +103,22 @@ where
             }
         }
     });
+}
+
+/// Answers one for whom no worker can be started, over another descriptor of his connection.
+fn answer_shared<C: Naming, T: Ledger, R: Wait + Clock + Eprint>(
+    server: &Server<'_, C, T, SocketPort, R>,
+    host: &Host,
+    shared: io::Result<UnixStream>,
+    error: io::Error,
+) {
+    match shared {
+        Ok(stream) => serve_asker(server, host, stream, Worker::Shared),
+        Err(_) => {
+            leave(host);
+            tell_lack(server.rt, host, CameBy::Control, error);
+        }
+    }
 }
 
 /// Lets one in who asks, where there is room for him.
@@ -117,8 +161,9 @@ fn serve_asker<C: Naming, T: Ledger, R: Wait + Clock>(
     server: &Server<'_, C, T, SocketPort, R>,
     host: &Host,
     stream: UnixStream,
+    worker: Worker,
 ) {
-    let _ = answer_over(server, host, &stream);
+    let _ = answer_over(server, host, &stream, worker);
     drop(stream);
     leave(host);
 }
@@ -132,12 +177,14 @@ fn answer_over<C: Naming, T: Ledger, R: Wait + Clock>(
     server: &Server<'_, C, T, SocketPort, R>,
     host: &Host,
     stream: &UnixStream,
+    worker: Worker,
 ) -> io::Result<()> {
     let patience = Duration::from_millis(PATIENCE);
     stream.set_read_timeout(Some(patience))?;
     stream.set_write_timeout(Some(patience))?;
     match hear(stream)? {
         Asked::Trace => answer_with_part(server, &host.trace, stream),
+        Asked::Follow if worker == Worker::Shared => say(stream, NO_WORKER),
         Asked::Follow => follow(server, &host.guests, &host.trace, stream),
         asked => match answer_to(server, host, asked) {
             Ok(Some(answer)) => say(stream, answer.as_str()),

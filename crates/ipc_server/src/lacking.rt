@@ -5,24 +5,49 @@ use std::rt::Clock;
 use std::sync::Wait;
 use std::{fmt, io};
 
-/// Tells that a connection of a space is closed, and why: once a minute, and in the log each time.
+/// By which path a connection came.
+#[derive(Clone, Copy)]
+pub(crate) enum CameBy {
+    /// That of a space.
+    Space(u64),
+    /// That of who asks.
+    Control,
+}
+
+impl fmt::Display for CameBy {
+    fn fmt<W: fmt::Write>(&self, f: &mut fmt::Formatter<W>) -> fmt::Result {
+        match self {
+            CameBy::Space(space) => write!(f, "a connection of space {space}"),
+            CameBy::Control => f.write_str("a connection to control"),
+        }
+    }
+}
+
+/// Tells that a connection is closed, and why: once a minute, and in the log each time.
 #[inline(never)]
 pub(crate) fn tell_lack<R: Wait + Clock + Eprint>(
     rt: &R,
     host: &Host,
-    space: u64,
+    came_by: CameBy,
     error: io::Error,
 ) {
     let (may, live) = host.guests.may_tell(rt);
     if may || host.is_logged {
-        host.lines.tell(rt, &Lack { space, error, live });
+        host.lines.tell(
+            rt,
+            &Lack {
+                came_by,
+                error,
+                live,
+            },
+        );
     }
 }
 
 /// A connection for which something is lacking, as that is told.
 #[derive(Clone, Copy)]
 struct Lack {
-    space: u64,
+    came_by: CameBy,
     error: io::Error,
     /// How many connections are there.
     live: usize,
@@ -30,11 +55,12 @@ struct Lack {
 
 impl fmt::Display for Lack {
     fn fmt<W: fmt::Write>(&self, f: &mut fmt::Formatter<W>) -> fmt::Result {
-        let Lack { space, error, live } = self;
-        write!(
-            f,
-            "l4d: a connection of space {space} is closed, since there is no "
-        )?;
+        let Lack {
+            came_by,
+            error,
+            live,
+        } = self;
+        write!(f, "l4d: {came_by} is closed, since there is no ")?;
         match error.kind() {
             ErrorKind::OutOfMemory => f.write_str("memory for it")?,
             // so the system says that a limit is reached

@@ -11,6 +11,8 @@ mod control;
 mod counters;
 mod ending;
 mod lacking;
+mod lag;
+mod linked;
 mod noted;
 mod probe;
 mod ready;
@@ -35,6 +37,7 @@ use ipc_tracing::{
     remove_door,
 };
 use l4sh_options::{ServerOptions, server_options};
+use linked::{target_of_trace, traced_at};
 use services::Services;
 use std::alloc::Global;
 use std::fs::File;
@@ -93,7 +96,10 @@ where
         return tell_help(rt, alloc);
     }
     match server_options(alloc, words) {
-        Ok(options) => obey(rt, alloc, &options),
+        Ok(options) => match target_of_trace(rt, &options) {
+            Some(target) => obey(rt, alloc, &traced_at(&options, target.as_path().as_str())),
+            None => obey(rt, alloc, &options),
+        },
         Err(error) => tell_error(rt, alloc, &error),
     }
 }

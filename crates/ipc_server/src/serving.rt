@@ -42,6 +42,10 @@ pub trait Link {
     /// Its call was over at once, and it was told so.
     fn sees_outcome(&self);
 
+    /// It is about to ask for a command whose strings have so many bytes: it waits where the trace
+    /// is too far behind.
+    fn asks(&self, bytes: u64);
+
     /// It is told this, as the thread that it is, if any.
     fn tells(&self, notice: Notice, thread: Option<ThreadId>);
 

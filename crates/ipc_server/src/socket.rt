@@ -1,7 +1,7 @@
 //! The socket of a connection, as the link of its ports.
 ghost use Rattle.std.specs.Prelude.{◌≡◌, ◌<◌};
 
-use crate::lacking::tell_lack;
+use crate::lacking::{CameBy, tell_lack};
 use crate::serving::Link;
 use ipc_host::Notice;
 use ipc_session::Gate;
@@ -12,7 +12,11 @@ use std::os::unix::net::UnixStream;
 use std::rt::Clock;
 use std::sync::Wait;
 use std::sync::atomic::{AtomicBool, Ordering};
-use std::{fmt, io};
+use std::time::Duration;
+use std::{fmt, io, thread};
+
+/// How long who waits for the trace sleeps at most before he looks again, in milliseconds.
+const LONGEST_PAUSE: u64 = 64;
 
 /// A connection that is there. What it is told is counted, and said on standard error where that is
 /// asked for.
@@ -127,6 +131,14 @@ impl<R: Wait + Clock + Eprint> Link for SocketGate<'_, R> {
             .greet(rt, ticket, thread, space, inode);
     }
 
+    fn asks(&self, bytes: u64) {
+        let Guest { rt, host, .. } = *self.guest;
+        host.trace.note_command(bytes);
+        if host.trace.is_full(rt) {
+            wait_for_trace(rt, host);
+        }
+    }
+
     fn sees_outcome(&self) {
         if self.guest.host.is_eager {
             self.guest.soon.store(true, Ordering::SeqCst);
@@ -154,6 +166,19 @@ impl<R: Wait + Clock + Eprint> Link for SocketGate<'_, R> {
             space,
             ..
         } = *self.guest;
-        tell_lack(rt, host, space, error);
+        tell_lack(rt, host, CameBy::Space(space), error);
+    }
+}
+
+// Waits until the trace has caught up, or the service is to end.
+#[inline(never)]
+fn wait_for_trace<R: Wait + Clock>(rt: &R, host: &Host) {
+    let mut pause = 1;
+    for _ in rt.forever() {
+        if !host.trace.is_full(rt) || host.guests.is_stopping(rt) {
+            return;
+        }
+        thread::sleep(rt, Duration::from_millis(pause));
+        pause = pause.saturating_mul(2).min(LONGEST_PAUSE);
     }
 }

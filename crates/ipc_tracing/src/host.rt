@@ -31,7 +31,7 @@ pub struct Host {
     pub is_eager: bool,
     /// What the workers share of the trace.
     pub trace: SharedTrace,
-    /// Where the worker of signals reads which have come.
+    /// Where the worker that watches reads which signals have come.
     pub signals: Option<ProcessStatus>,
     /// Where the worker of counters reads how much memory there is.
     pub memory: Option<ProcessStatus>,

@@ -3,16 +3,25 @@ use crate::followers::Followers;
 use crate::meter::Meter;
 use crate::parts::Parts;
 use crate::trace_fault::TraceStop;
-use ipc_host::ErrorLines;
 use l4sh_options::ServerOptions;
 use std::alloc::Global;
+use std::sync::Wait;
 use std::sync::atomic::{AtomicU64, Ordering};
+
+/// How much is asked at most before the trace has caught up, in bytes. Where it is more, who asks
+/// waits for the trace.
+const MOST_WAITING: u64 = 8_388_608;
+
+/// What a command weighs beside its strings, in bytes: the entries that come of it.
+const COMMAND_WEIGHT: u64 = 512;
 
 /// A trace, as all workers see it.
 #[derive(Drop)]
 pub struct SharedTrace {
     /// How many entries stand in it; None without one.
     traced: Option<AtomicU64>,
+    /// How much was asked since it had caught up, in bytes.
+    waiting: AtomicU64,
     /// Whether it has stopped, and why.
     pub stop: TraceStop,
     /// How much stands in its file, and where that ends.
@@ -21,8 +30,6 @@ pub struct SharedTrace {
     pub parts: Parts,
     /// Those who follow it.
     pub followers: Followers,
-    /// What is said of it on standard error.
-    pub(crate) lines: ErrorLines,
 }
 
 impl SharedTrace {
@@ -30,12 +37,35 @@ impl SharedTrace {
     pub fn new(alloc: Global, options: &ServerOptions<'_>) -> SharedTrace {
         SharedTrace {
             traced: nothing_traced(options),
+            waiting: AtomicU64::new(0),
             stop: TraceStop::new(),
             meter: Meter::new(options.trace_size),
             parts: Parts::new(),
             followers: Followers::new(alloc),
-            lines: ErrorLines::new(alloc),
         }
+    }
+
+    /// Whether one is written, and has not stopped.
+    pub fn goes_on<R: Wait>(&self, rt: &R) -> bool {
+        self.traced.is_some() && self.stop.fault(rt).is_none()
+    }
+
+    /// Notes that a command is asked whose strings have so many bytes.
+    pub fn note_command(&self, bytes: u64) {
+        if self.traced.is_some() {
+            let weight = bytes.saturating_add(COMMAND_WEIGHT);
+            let _ = self.waiting.fetch_add(weight, Ordering::SeqCst);
+        }
+    }
+
+    /// Whether who asks has to wait until the trace has caught up.
+    pub fn is_full<R: Wait>(&self, rt: &R) -> bool {
+        self.waiting.load(Ordering::SeqCst) > MOST_WAITING && self.goes_on(rt)
+    }
+
+    /// Notes that no entry is left to be put.
+    pub(crate) fn note_caught_up(&self) {
+        self.waiting.store(0, Ordering::SeqCst);
     }
 
     /// Notes how many entries stand in the trace.

@@ -9,7 +9,6 @@ use crate::server::Server;
 use crate::shared_trace::SharedTrace;
 use crate::trace_fault::TraceFault;
 use ipc_base::PortWrite;
-use ipc_core::MAX_ENTRIES;
 use ipc_history::Entry;
 use ipc_host::SocketPort;
 use ipc_lock::{HeldPart, MarkBook, Naming};
@@ -18,16 +17,12 @@ use std::alloc::Global;
 use std::rt::Clock;
 use std::sync::Wait;
 use std::sync::ledger::Ledger;
+use std::thread;
 use std::time::Duration;
-use std::{fmt, thread};
 
 /// How long the worker sleeps where no entry is left, in milliseconds. So entries that come one by
 /// one are written together.
 const PAUSE: u64 = 1;
-
-/// Where more entries than these wait for the trace, that is told: half of those that memory may
-/// hold.
-const FAR_BEHIND: usize = MAX_ENTRIES as usize / 2;
 
 /// A trace that is written while the server runs, and how many entries stand in it and in the files
 /// before it.
@@ -36,8 +31,6 @@ pub struct Trace<P: PortWrite> {
     writer: TraceWriter<P>,
     count: usize,
     marks: MarkBook,
-    // whether it was told that it is far behind, since no entry was left
-    is_told: bool,
 }
 
 /// What a further file begins with: the part behind so many entries.
@@ -45,19 +38,6 @@ pub struct Trace<P: PortWrite> {
 pub struct Next {
     pub(crate) part: HeldPart,
     pub(crate) count: usize,
-}
-
-/// That a trace is far behind, as it is told.
-#[derive(Clone, Copy)]
-struct Behind {
-    entries: usize,
-}
-
-impl fmt::Display for Behind {
-    fn fmt<W: fmt::Write>(&self, f: &mut fmt::Formatter<W>) -> fmt::Result {
-        let Behind { entries } = self;
-        write!(f, "l4d: trace {entries} entries behind")
-    }
 }
 
 /// Puts a part that has no further entries.
@@ -85,7 +65,6 @@ impl<P: PortWrite> Trace<P> {
             writer: TraceWriter::new(alloc, port),
             count,
             marks: MarkBook::new(),
-            is_told: false,
         }
     }
 
@@ -167,6 +146,7 @@ impl<P: PortWrite> Trace<P> {
         self.put_lines(&rest)?;
         drop(rest);
         shared.note_traced(self.count);
+        shared.note_caught_up();
         self.writer.flush()?;
         Ok(part)
     }
@@ -208,8 +188,8 @@ impl<P: PortWrite> Trace<P> {
         let left = server
             .shared
             .mark_traced(server.rt, self.count, &mut self.marks);
-        self.tell_when_far_behind(server.rt, shared, left);
         if left == 0 {
+            shared.note_caught_up();
             self.writer.flush()?;
             thread::sleep(server.rt, Duration::from_millis(PAUSE));
         }
@@ -225,22 +205,6 @@ impl<P: PortWrite> Trace<P> {
         put_each(&mut self.writer, entries)?;
         self.count = self.count.saturating_add(entries.len());
         Ok(())
-    }
-
-    // Says on standard error that so many entries wait, where they are many and it was not said
-    // since none was left.
-    fn tell_when_far_behind<R: Wait + Eprint>(&mut self, rt: &R, shared: &SharedTrace, left: usize)
-        ensures writer { self.new.writer ≡ self.old.writer }
-        ensures count { self.new.count ≡ self.old.count }
-        ensures marks { self.new.marks ≡ self.old.marks }
-    {
-        if left > FAR_BEHIND && !self.is_told {
-            shared.lines.tell(rt, &Behind { entries: left });
-            self.is_told = true;
-        }
-        if left == 0 {
-            self.is_told = false;
-        }
     }
 }
 

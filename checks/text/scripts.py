@@ -16,6 +16,8 @@ each line of COMMAND.in is read alone, and ends as bad line 1, with that line of
 In `live` NAME.in is typed into `l4sh talk DIR`, where a server listens that NAME.frames writes down: what it hears, to the byte, and what it says then, line by line.
 Behind the last line it says nothing more, and hears nothing. What it says comes whole, and then byte by byte.
 
+A chart of a part of each short trace of `chart` has the bars that the chart of the whole trace has in these rows: from each entry on, up to each entry, and of each thread.
+
 Then each example of examples/ prints what is stored beside it. And the script that `l4sh script` makes of a trace gives the trace back when it is run:
 of each example, and of each script in checks/scripts/run.
 
@@ -62,6 +64,8 @@ CONNECTIONS = 65535
 LONG_RUN = re.compile(rb"([0-9a-f]{2})\1{99,}")
 # Of two lines that are too long, of so many bytes, and of two traces of so many messages, the longer one takes at most so much more memory.
 LONG_LINES, MORE = (MAX_LINE_BYTES + (1 << 20), 24 << 20), 8 << 20
+# A trace of at most so many lines is charted in parts. Of a chart as text: so many characters stand before its lanes, over which there are names.
+CHARTED, BEFORE_LANES, NAME = 40, 21, re.compile(r"\d+\.\d+")
 # How many bytes of what a run says are looked at.
 SAID = 400
 LONG_TRACES = (100, 100_000)
@@ -128,6 +132,27 @@ def faults_of_stored(l4sh, base):
             there = ended_in_pieces(words, given, size)
             if there != wanted(base):
                 yield f"in pieces of {size}: {there} is not {wanted(base)}"
+
+
+def bars_of(l4sh, trace, *options):
+    """For which threads of a chart there is a bar at each row, and which: `:`, `H` or none, by entries and threads."""
+    printed = ended([l4sh, "chart", "--text", "--unfolded", *options, "-"], trace)[0].decode()
+    names, *rows = printed.partition("\n\n")[0].split("\n")
+    lanes = [(name[0], name.start() + len(name[0]) // 2) for name in NAME.finditer(names, BEFORE_LANES)]
+    return {int(row[:7]): {name: row[at] if row[at] in ":H" else "" for name, at in lanes} for row in rows if row[:7].strip().isdigit()}
+
+
+def faults_of_bars(l4sh, path):
+    trace = stored(path)
+    whole = bars_of(l4sh, trace)
+    # of a trace that is not legal there is no whole chart
+    parts = [(option, f"{number}") for option in ("--from", "--to") for number in range(1, trace.count(b"\n") + 1) if whole]
+    parts += [("--threads", name) for name in sorted({name for bars in whole.values() for name in bars})]
+    for part in parts:
+        for number, bars in bars_of(l4sh, trace, *part).items():
+            wanted = {name: whole[number][name] for name in bars}
+            if bars != wanted:
+                yield f"{part}: at entry {number} there are {bars} and not {wanted}"
 
 
 def faults_of_migrated(l4sh, base):
@@ -502,6 +527,7 @@ def main():
     scripts = sorted(glob.glob(f"{HERE}/scripts/run/*.in"))
     looks = [(path[: -len(".in")], FAULTS_OF.get(os.path.basename(os.path.dirname(path)), faults_of_stored))
              for path in sorted(glob.glob(f"{HERE}/scripts/*/*.in"))]
+    looks += [(path, faults_of_bars) for path in sorted(glob.glob(f"{HERE}/scripts/chart/*.in")) if stored(path).count(b"\n") <= CHARTED]
     looks += [(path, faults_of_example) for path in examples]
     looks += [(path, faults_of_script) for path in [*examples, *scripts]]
     looks += [(name, faults_of_made) for name in MADE] + [("times", faults_of_times)]

@@ -2,6 +2,7 @@
 //! shows something, what threads wait for, and which rows come again.
 #![tactic(auto)]
 
+mod bars;
 mod calls;
 mod events;
 mod folding;

@@ -1,12 +1,12 @@
 ghost use Rattle.std.specs.Prelude.{IfOk, length};
 ghost use Rattle.l4sh_chart.specs.Folds.{Covers};
 
-use crate::calls::Wait;
+use crate::bars::Bars;
 use crate::events::{Change, Changes, Event, Mark, Step};
 use crate::folding::{Fold, folds_of, singles};
 use crate::notes::Notes;
-use crate::order::{in_order, move_rows, move_turns, order_of};
-use crate::scene::{Column, Row, Said, Scene, Turn};
+use crate::order::{in_order, move_rows, order_of};
+use crate::scene::{Column, Row, Said, Scene};
 use crate::selection::Selection;
 use crate::shapes::shapes_of;
 use crate::told::{ToldCall, ToldCalls};
@@ -23,11 +23,9 @@ pub struct SceneMaker {
     selection: Selection,
     columns: Vec<Column>,
     rows: Vec<Row>,
-    turns: Vec<Turn>,
+    bars: Bars,
     // the columns' places, by the words of their threads
     places: BTreeMap<u64, usize>,
-    // what threads wait for since entries that are not shown, by their words
-    pending: BTreeMap<u64, Change>,
     notes: Notes,
     calls: ToldCalls,
     // how many entries it was given
@@ -43,9 +41,8 @@ impl SceneMaker {
             selection,
             columns: Vec::new(alloc),
             rows: Vec::new(alloc),
-            turns: Vec::new(alloc),
+            bars: Bars::new(alloc),
             places: BTreeMap::new(alloc),
-            pending: BTreeMap::new(alloc),
             notes: Notes::new(alloc),
             calls: ToldCalls::new(alloc),
             count: 0,
@@ -98,14 +95,14 @@ impl SceneMaker {
         let alloc = *self.rows.allocator();
         let order = order_of(alloc, &self.places, self.columns.len())?;
         move_rows(&mut self.rows, &order);
-        move_turns(&mut self.turns, &order);
         let folds = folds_for(alloc, &self.rows, self.calls.told(), is_folded)?;
         let columns = in_order(alloc, &self.columns, &self.places)?;
+        let turns = self.bars.take(&self.places, &order)?;
         Ok(Scene {
             columns,
             rows: mem::replace(&mut self.rows, Vec::new(alloc)),
             calls: self.calls.take(),
-            turns: mem::replace(&mut self.turns, Vec::new(alloc)),
+            turns,
             folds,
         })
     }
@@ -114,12 +111,21 @@ impl SceneMaker {
     fn add(&mut self, entry: &Entry) -> Result<(), AllocError> {
         self.note_call(entry)?;
         let Step { event, changes } = self.notes.step(entry)?;
+        let Changes { first, second } = changes;
         match event {
             Some(event) if self.selection.shows(self.count, event.from, event.to) => {
-                self.show(entry, event, changes)
+                self.show(entry, event, [first, second])
             }
-            _ => self.hide(changes),
+            _ => self.hide([first, second]),
         }
+    }
+
+    // Keeps what changes by an entry that is not shown.
+    fn hide(&mut self, changes: [Option<Change>; 2]) -> Result<(), AllocError> {
+        for change in changes.iter().flatten() {
+            self.bars.hide(*change)?;
+        }
+        Ok(())
     }
 
     // Takes note of a call that is entered.
@@ -132,39 +138,21 @@ impl SceneMaker {
         }
     }
 
-    // Keeps what changes by an entry that is not shown.
-    fn hide(&mut self, changes: Changes) -> Result<(), AllocError> {
-        self.keep(changes.first)?;
-        self.keep(changes.second)
-    }
-
-    fn keep(&mut self, change: Option<Change>) -> Result<(), AllocError> {
-        match change {
-            Some(change) => self.keep_for(change),
-            None => Ok(()),
-        }
-    }
-
-    // Keeps what a thread waits for. Without a column it is seen to wait for nothing.
-    fn keep_for(&mut self, change: Change) -> Result<(), AllocError> {
-        let word = change.thread.to_word();
-        if change.wait == Wait::Nothing && self.places.get(&word).is_none() {
-            let _ = self.pending.remove(&word);
-        } else {
-            self.pending.insert(word, change)?;
-        }
-        Ok(())
-    }
-
     // Adds a row, and what changes above it and by it.
-    fn show(&mut self, entry: &Entry, event: Event, changes: Changes) -> Result<(), AllocError> {
+    fn show(
+        &mut self,
+        entry: &Entry,
+        event: Event,
+        changes: [Option<Change>; 2],
+    ) -> Result<(), AllocError> {
         let from = self.column(event.from, entry)?;
         let to = self.column(event.to, entry)?;
         let call = self.call_of(event)?;
         let row = self.rows.len();
-        self.turn_pending(row)?;
-        self.turn(row, false, changes.first)?;
-        self.turn(row, false, changes.second)?;
+        self.bars.turn_above(row)?;
+        for change in changes.iter().flatten() {
+            self.bars.turn_at(row, *change)?;
+        }
         self.rows.push(Row {
             number: self.count,
             said: said_by(entry),
@@ -187,57 +175,6 @@ impl SceneMaker {
             self.calls.place(event.from)
         } else {
             Ok(None)
-        }
-    }
-
-    // What changed since the last row, of the threads that have a column by now.
-    fn turn_pending(&mut self, row: usize) -> Result<(), AllocError> {
-        if self.pending.is_empty() {
-            return Ok(());
-        }
-        let pending = mem::replace(&mut self.pending, BTreeMap::new(*self.rows.allocator()));
-        let done = self.turn_all(row, &pending);
-        drop(pending);
-        done
-    }
-
-    fn turn_all(&mut self, row: usize, changes: &BTreeMap<u64, Change>) -> Result<(), AllocError> {
-        for change in changes.values() {
-            self.turn(row, true, Some(*change))?;
-        }
-        Ok(())
-    }
-
-    fn turn(
-        &mut self,
-        row: usize,
-        is_above: bool,
-        change: Option<Change>,
-    ) -> Result<(), AllocError> {
-        match change {
-            Some(change) => self.turn_thread(row, is_above, change),
-            None => Ok(()),
-        }
-    }
-
-    // What a thread waits for from a row on, or once it has a column.
-    fn turn_thread(
-        &mut self,
-        row: usize,
-        is_above: bool,
-        change: Change,
-    ) -> Result<(), AllocError> {
-        match self.places.get(&change.thread.to_word()).copied() {
-            Some(column) => {
-                self.turns.push(Turn {
-                    row,
-                    is_above,
-                    column,
-                    wait: change.wait,
-                })?;
-                Ok(())
-            }
-            None => self.keep_for(change),
         }
     }
 

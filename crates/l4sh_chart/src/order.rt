@@ -1,5 +1,5 @@
 //! Columns are made as their threads come, and stand in the order of the threads' numbers.
-use crate::scene::{Column, Row, Turn};
+use crate::scene::{Column, Row};
 use std::alloc::{AllocError, Global};
 use std::collections::BTreeMap;
 
@@ -50,7 +50,8 @@ fn put_in_order(
     Ok(())
 }
 
-fn moved(order: &[usize], column: usize) -> usize {
+/// Where a column goes.
+pub(crate) fn moved(order: &[usize], column: usize) -> usize {
     order.get(column).copied().unwrap_or(column)
 }
 
@@ -59,12 +60,5 @@ pub(crate) fn move_rows(rows: &mut [Row], order: &[usize]) {
     for row in rows {
         row.from = moved(order, row.from);
         row.to = moved(order, row.to);
-    }
-}
-
-/// The same of turns.
-pub(crate) fn move_turns(turns: &mut [Turn], order: &[usize]) {
-    for turn in turns {
-        turn.column = moved(order, turn.column);
     }
 }

@@ -24,7 +24,7 @@ waits_text (Some waits) = times_text waits
 -- the line of a pair, or of all together
 abbrev pub row_text : List ℕ → List ℕ → Row → List ℕ
 row_text from to row =
-    cell_text 8 from ++ cell_text 8 to ++ cell_text 8 (decimal row.calls)
+    cell_text 9 from ++ cell_text 9 to ++ cell_text 8 (decimal row.calls)
     ++ cell_text 10 (decimal row.messages) ++ cell_text 12 (decimal row.bytes)
     ++ cell_text 10 (decimal row.failures) ++ cell_text 20 (waits_text row.sent)
     ++ waits_text row.received ++ codes "\n"

@@ -11,7 +11,7 @@ use ipc_words::ThreadId;
 use std::alloc::{AllocError, Global};
 
 // How many places the cells of a line take, but for the last one.
-const WIDTHS: [usize; 7] = [8, 8, 8, 10, 12, 10, 20];
+const WIDTHS: [usize; 7] = [9, 9, 8, 10, 12, 10, 20];
 
 // The heads of these columns.
 const HEADS: [(&str, usize); 7] = [

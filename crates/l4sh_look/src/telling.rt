@@ -132,7 +132,12 @@ fn tell_stop(
         (false, true) => "the receive phase",
         (false, false) => "no phase",
     };
-    write!(text, "{} stops {what} of {}", IdText(thread), IdText(other))
+    write!(
+        text,
+        "{} asks to stop {what} of {}",
+        IdText(thread),
+        IdText(other)
+    )
 }
 
 fn tell_output(text: &mut String, output: Output, notes: &Notes) -> Result<(), AllocError> {

@@ -29,7 +29,9 @@ import time
 sys.path.insert(1, f"{sys.path[0]}/../lib")
 
 from counting import Tally
-from frames import ipc
+from frames import ANY, ipc
+from processes import figures
+from protocol_tables import MAX_STRING_BYTES
 from serving import Client, Server, is_legal, pair_works, rest_of
 from traces import entries_in
 
@@ -37,6 +39,8 @@ SECONDS = 60
 SIZE = 3_000
 TRIPS = 400
 ASKERS, LOADED = 3, 4
+# Beside its size a file has at most twice what may wait for the trace, and a command of each client, in hexadecimal. Bytes; what the server holds, KiB.
+MOST_OF_A_FILE, MOST_RESIDENT = (1 << 20) + 2 * 2 * (8 + 4 << 20), 150_000
 # A thread that nobody is.
 NOBODY = 77 << 32 | 1
 
@@ -180,14 +184,15 @@ def check_rotation(l4d, l4sh):
             client.bye()
         for client in waits:
             client.line.close()
+        server.process.terminate()
+        # what it still writes may end further files
+        server.process.wait(SECONDS)
         files = chain(server.trace)
         check("there are many files", len(files) > 10, len(files))
         sizes = [os.path.getsize(file) for file in files[:-1]]
         check("each has its size", min(sizes) >= SIZE, min(sizes))
         modes = {os.stat(file).st_mode & 0o777 for file in files}
         tally.same("all are their owner's alone", modes, {0o600})
-        server.process.terminate()
-        server.process.wait(SECONDS)
         entries = check_chain(l4sh, server.trace, room)
         tally.same("no message is lost", count_of(entries, "ended"), LOADED * TRIPS)
         for part in parts:
@@ -282,16 +287,21 @@ def check_slow(l4d):
             asker.close()
 
 
+def work_slowly(server):
+    """A pair calls each other so slowly that the trace goes on in several files of 1 KiB, and leaves."""
+    pair = Client(server.path, 1), Client(server.path, 2)
+    for _ in range(60):
+        pair_works(pair)
+        time.sleep(0.003)
+    for client in pair:
+        client.bye()
+
+
 def check_kept(l4d, l4sh):
     """How many older files are kept, and what becomes of the one that is there at the start."""
     folder = tempfile.mkdtemp(prefix="l4d-")
     with Server(l4d, "--trace-size", "1K", "--trace-keep", "2", "--connections", "2", folder=folder, trace=True) as server, tempfile.TemporaryDirectory() as room:
-        pair = Client(server.path, 1), Client(server.path, 2)
-        for _ in range(60):
-            pair_works(pair)
-            time.sleep(0.003)
-        for client in pair:
-            client.bye()
+        work_slowly(server)
         tally.same("it ends well", server.end()[:2], (0, "closed\n"))
         tally.same("two older files are kept", sorted(it for it in os.listdir(folder) if it.startswith("trace")),
                    sorted(f"trace{place}{beside}" for place in ("", ".1", ".2") for beside in ("", ".began")))
@@ -326,7 +336,7 @@ def check_refused(l4d, folder, name, *words):
     """A second server may not write the trace of one that runs: it says so, serves on without it, and leaves all files as they are."""
     before, path = files_in(folder), f"{folder}/{name}"
     with Server(l4d, "--trace", path, "--connections", "2", "--probe", *words) as second:
-        told = f"l4d: trace TR1\n  {path} cannot be opened: another server writes it\n"
+        told = f"l4d: trace TR1\n  {os.path.realpath(path)} cannot be opened: another server writes it\n"
         # (it may be ended before its own client has been told anything)
         status, out, said = second.end()
         tally.same(f"a second server: {name} {words}", (status, out.removeprefix("probe 0x7\n"), said), (1, "closed\n", told))
@@ -434,6 +444,52 @@ def check_moved(l4d, l4sh):
         tally.same("there is one older file", [os.path.basename(file) for file in chain(server.trace)], ["trace.1", "trace"])
 
 
+def check_linked(l4d, l4sh):
+    """Of a trace that is named by a link the older files stand beside its target, which is made where nothing is there, and the link stays."""
+    for is_there in (True, False):
+        with tempfile.TemporaryDirectory() as links, tempfile.TemporaryDirectory() as room:
+            target, link = f"{room}/trace", f"{links}/trace"
+            if is_there:
+                open(target, "wb").close()
+            os.symlink(target, link)
+            what = f"a link to what is {'' if is_there else 'not '}there"
+            with Server(l4d, "--trace", link, "--trace-size", "1K", "--trace-keep", "2", "--connections", "2") as server:
+                work_slowly(server)
+                tally.same(f"{what}: the server ends well", server.end()[:2], (0, "closed\n"))
+            tally.same(f"{what}: it stays one", (os.path.islink(link), os.listdir(links)), (True, ["trace"]))
+            tally.same(f"{what}: the older files", [os.path.basename(file) for file in chain(target)], ["trace.2", "trace.1", "trace"])
+            timed = subprocess.run([l4sh, "state", "--time", link], capture_output=True, text=True, timeout=SECONDS, check=False)
+            tally.same(f"{what}: its times", (timed.returncode, timed.stderr), (0, ""))
+
+
+def check_renamed(l4d, l4sh):
+    """Where the trace goes on in a further file while files are judged, what then stands at a name is not taken for the file that stood there."""
+    with Server(l4d, "--connections", "2", trace=True) as server, tempfile.TemporaryDirectory() as room:
+        pair = Client(server.path, 1), Client(server.path, 2)
+        pair_works(pair)
+        for _ in range(2):
+            rotated(l4sh, server)
+            pair_works(pair)
+            time.sleep(0.3)
+        first = f"{room}/first"
+        os.mkfifo(first)
+        for command in ("check", "state"):
+            judging = subprocess.Popen([l4sh, command, first, f"{server.trace}.1", server.trace], stdout=subprocess.PIPE, stderr=subprocess.PIPE, text=True)
+            time.sleep(0.3)
+            rotated(l4sh, server)
+            pair_works(pair)
+            time.sleep(0.3)
+            with open(chain(server.trace)[0], "rb") as file, open(first, "wb") as pipe:
+                pipe.write(file.read())
+            out, err = judging.communicate(timeout=SECONDS)
+            told = f"l4sh: {server.trace}.1: another file stands there now than at the start, as where l4d goes on in a further one: ask again\n"
+            tally.same(f"{command} of files that are renamed meanwhile", (judging.returncode, out, err), (1, "", told))
+        for client in pair:
+            client.bye()
+        tally.same("it ends well", server.end()[:2], (0, "closed\n"))
+        check_chain(l4sh, server.trace, room)
+
+
 def check_pipe(l4d, l4sh):
     """A pipe is one file to its end: no size and no `l4sh rotate` ends it, and a reader finds one trace."""
     folder = tempfile.mkdtemp(prefix="l4d-")
@@ -462,6 +518,66 @@ def check_pipe(l4d, l4sh):
         check("the pipe is there", stat.S_ISFIFO(os.stat(pipe).st_mode), oct(os.stat(pipe).st_mode))
         tally.same("and nothing beside it", [it for it in os.listdir(folder) if it.startswith("trace.")], [])
         tally.same("one trace", [line for line in lines if line.startswith(("l4trace", "l4part"))], ["l4trace 2"])
+
+
+def long_strings(path, number, seconds):
+    """Two threads of a process of its own: one sends the other strings for so many seconds, as fast as it can."""
+    child = os.fork()
+    if child:
+        return child
+    status = 1
+    try:
+        (one, two), end = (Client(path, number), Client(path, number + 1)), time.monotonic() + seconds
+        item, string = (MAX_STRING_BYTES << 10, 0), bytes(MAX_STRING_BYTES)
+        while time.monotonic() < end:
+            one.line.sendall(ipc(0, ANY, buffers=item))
+            sent = two.call(one.thread, 0, item, tag=2 << 6, payload=string)
+            assert not sent.has_failed and not one.outcome().has_failed, hex(sent.error)
+        status = 0
+    finally:
+        os._exit(status)
+
+
+def check_long_strings(l4d, l4sh):
+    """However fast long strings come, each file is little longer than its size, and the server holds few of them: who asks waits for the trace."""
+    with Server(l4d, "--trace-size", "1M", "--trace-keep", "100", trace=True) as server:
+        callers, most, end = [long_strings(server.path, number, 0.7) for number in range(1, 9, 2)], 0, time.monotonic() + 1
+        while time.monotonic() < end:
+            most = max(most, figures(server.process.pid)[2])
+            time.sleep(0.05)
+        tally.same("each string comes", [os.waitpid(caller, 0)[1] for caller in callers], [0] * len(callers))
+        server.process.terminate()
+        server.process.wait(SECONDS)
+        sizes = [os.path.getsize(file) for file in chain(server.trace)]
+        check("there are strings of many megabytes", sum(sizes) > 20 << 20, sum(sizes))
+        check("each file is little longer than its size", max(sizes) < MOST_OF_A_FILE, max(sizes))
+        check("the server holds few of them", most < MOST_RESIDENT, most)
+        judged = subprocess.run([l4sh, "check", *chain(server.trace)], capture_output=True, text=True, timeout=SECONDS, check=False)
+        tally.same("nothing is lost", (judged.returncode, judged.stdout), (0, "yes\n"))
+
+
+def check_migrated(l4d, l4sh):
+    """A trace that a server writes is left alone by `l4sh migrate`; once the server has ended it is written anew."""
+    with Server(l4d, "--connections", "2", trace=True) as server:
+        pair = Client(server.path, 1), Client(server.path, 2)
+        pair_works(pair)
+        server.entries()
+
+        def migrated():
+            ran = subprocess.run([l4sh, "migrate", server.trace, server.trace], capture_output=True, text=True, timeout=SECONDS, check=False)
+            return ran.returncode, ran.stdout, ran.stderr
+
+        why = "a server writes it: l4sh rotate makes an older file of it"
+        tally.same("migrate a trace that is written", migrated(), (1, "", f"l4sh: device failed\n{server.trace}: {why}\n"))
+        for _ in range(20):
+            pair_works(pair)
+        for client in pair:
+            client.bye()
+        tally.same("it ends well", server.end()[:2], (0, "closed\n"))
+        check("nothing is lost", *is_legal(l4sh, server.trace))
+        lines = lines_of(server.trace)
+        tally.same("migrate a trace that is whole", migrated()[:2], (0, ""))
+        tally.same("it has the same lines", lines_of(server.trace), lines)
 
 
 def little_room():
@@ -522,8 +638,12 @@ def main(arguments):
     check_kept(l4d, l4sh)
     check_asked_for(l4d, l4sh)
     check_moved(l4d, l4sh)
+    check_linked(l4d, l4sh)
+    check_renamed(l4d, l4sh)
     check_second(l4d, l4sh)
     check_pipe(l4d, l4sh)
+    check_long_strings(l4d, l4sh)
+    check_migrated(l4d, l4sh)
     check_failures(l4d, l4sh)
     check_words(l4d)
     return tally.end()

@@ -115,8 +115,9 @@ fn put_question(alloc: Global, stream: &UnixStream, question: Question) -> io::R
 fn print_answer_of<W: PortWrite>(alloc: Global, asked: &Asked, writer: &mut W) -> Ending {
     let mut server = &asked.stream;
     let mut bytes = [0u8; PIECE];
-    for _ in 0..MOST_PIECES {
+    for piece in 0..MOST_PIECES {
         match server.read(&mut bytes) {
+            Ok(0) if piece == 0 => return turned_away(alloc, asked.path.as_str()),
             Ok(0) => break,
             Ok(count) => {
                 if write_all(writer, &bytes[..count]).is_err() {
@@ -153,6 +154,8 @@ pub(crate) fn connect_reason(
         ErrorKind::NotFound => ": no l4d serves there, or none that makes this path",
         ErrorKind::PermissionDenied =>
             ": only the user whose l4d serves there may ask it, and root",
+        ErrorKind::InvalidFilename | ErrorKind::InvalidInput =>
+            ": the path of a socket has at most 107 bytes",
         _ => "",
     };
     format!(in alloc; "{path}: {error}{help}")
@@ -163,10 +166,21 @@ fn not_asked(alloc: Global, path: &str, question: Question, error: &io::Error) -
     if is_late(error) {
         return silent(alloc, path, question);
     }
-    Ending::Alone {
-        exit: Exit::DeviceFailed,
-        reason: format!(in alloc; "{path}: {error}").ok(),
+    match error.kind() {
+        ErrorKind::BrokenPipe | ErrorKind::ConnectionReset => turned_away(alloc, path),
+        _ => Ending::Alone {
+            exit: Exit::DeviceFailed,
+            reason: format!(in alloc; "{path}: {error}").ok(),
+        },
     }
+}
+
+/// The server closes the connection before it answers.
+fn turned_away(alloc: Global, path: &str) -> Ending {
+    let reason = format!(in alloc;
+        "l4sh: {path}: l4d closed the connection, as where 8 ask at one time, where it lacks memory (its standard error says so), and where it ends: ask again"
+    );
+    told(1, reason)
 }
 
 /// The server does not answer in its time, and the reason names its path and what was asked.

@@ -15,7 +15,8 @@ use l4sh_look::Exit;
 use l4sh_options::{ScriptLimits, TalkOptions};
 use std::alloc::Global;
 use std::net::Net;
-use std::rt::Files;
+use std::rt::{Clock, Files};
+use std::sync::Wait;
 use std::sync::ledger::Ledger;
 
 /// Runs the script of standard input. Of a p that is dropped, and of refusals, it is told on
@@ -79,13 +80,11 @@ pub(crate) fn talk_over_input<L: Ledger, R: Files + Input, W: PortWrite>(
 }
 
 /// Talks from standard input with a live server, with a prompt at a terminal.
-pub(crate) fn talk_from_input<L: Ledger, R: Input + Print + Eprint + Net, W: PortWrite>(
-    rt: &R,
-    alloc: Global,
-    options: &TalkOptions<'_>,
-    reads: Failures<L>,
-    writer: &mut W,
-) -> Talked {
+pub(crate) fn talk_from_input<
+    L: Ledger,
+    R: Input + Print + Eprint + Net + Wait + Clock,
+    W: PortWrite,
+>(rt: &R, alloc: Global, options: &TalkOptions<'_>, reads: Failures<L>, writer: &mut W) -> Talked {
     let watch = Watch::new();
     let typed = ReadPort::new(rt.reader(), reads);
     let mut reader = PromptedPort::new(rt, typed, &watch);

@@ -31,11 +31,13 @@ use l4sh_look::Exit;
 use l4sh_options::{ShellOptions, mistake_text, shell_options, tell_version};
 use obeying::obey_into;
 use std::alloc::Global;
+use std::fs::File;
 use std::io;
 use std::marker::Brand;
 use std::net::Net;
 use std::process::ExitCode;
 use std::rt::{Clock, Files};
+use std::sync::Wait;
 use std::sync::ledger::{Blank, Ledger};
 
 fn main(rt: HostRuntime) -> io::Result<ExitCode> {
@@ -51,7 +53,7 @@ fn main(rt: HostRuntime) -> io::Result<ExitCode> {
 }
 
 /// Does what the words ask for, and answers the status of the program.
-fn obey_words<R: Alloc + Files + Input + Print + Eprint + Clock + Net>(
+fn obey_words<R: Alloc + Files<File = File> + Input + Print + Eprint + Clock + Net + Wait>(
     rt: &R,
     alloc: Global,
     words: &[String],
@@ -115,7 +117,7 @@ fn is_help(words: &[String]) -> bool {
 
 /// Does what was asked for. The counts of failures, of the reader and of the writer, begin as
 /// blanks. Why standard output failed is noted.
-fn obey<L: Ledger, M: Ledger, R: Files + Input + Print + Eprint + Clock + Net>(
+fn obey<L: Ledger, M: Ledger, R: Files<File = File> + Input + Print + Eprint + Clock + Net + Wait>(
     rt: &R,
     alloc: Global,
     options: &ShellOptions<'_>,

@@ -9,12 +9,18 @@ use l4sh_explain::{Told, answer_period, answer_tag, explain};
 use l4sh_files::{Ending, Migration, chart_of, check_of, migrate_file, part_files, script_in};
 use l4sh_options::ShellOptions;
 use std::alloc::{AllocError, Global};
+use std::fs::File;
 use std::net::Net;
 use std::rt::{Clock, Files};
+use std::sync::Wait;
 use std::sync::ledger::Ledger;
 
 /// Does what was asked for, and prints to a writer.
-pub(crate) fn obey_into<L: Ledger, R: Files + Input + Print + Eprint + Clock + Net, W: PortWrite>(
+pub(crate) fn obey_into<
+    L: Ledger,
+    R: Files<File = File> + Input + Print + Eprint + Clock + Net + Wait,
+    W: PortWrite,
+>(
     rt: &R,
     alloc: Global,
     options: &ShellOptions<'_>,

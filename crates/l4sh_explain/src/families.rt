@@ -117,7 +117,7 @@ pub(crate) const FAMILIES: [Family; 6] = [
             "ExchangeRegisters of what is no live thread of the caller's space",
             "the wire has no such version",
             "the connection stayed with the process that forked this one",
-            "a call of the thread is open: longjmp left it, or a signal handler calls within it",
+            "a call of the thread is open: l4_ipc_begin began it, longjmp left it, or a signal handler calls within it",
             "what was appended to the message is no string item",
             "a string or a buffer lies in memory that is not there",
             "the server is full or does not answer",

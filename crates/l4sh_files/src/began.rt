@@ -38,9 +38,18 @@ fn no_file(alloc: Global, file: &str) -> Result<String, AllocError> {
     )
 }
 
-/// What the file beside a trace says of its beginning. None where it is not there, or says nothing
-/// of that.
+/// What the file beside a trace says of its beginning, or the one beside what a link leads to. None
+/// where none is there, or it says nothing of that.
 fn start_beside<R: Files>(rt: &R, alloc: Global, file: &str) -> Option<Start> {
+    if let Some(start) = start_at(rt, alloc, file) {
+        return Some(start);
+    }
+    let target = rt.canonicalize(alloc, file).ok()?;
+    start_at(rt, alloc, target.as_path().as_str())
+}
+
+/// What the file beside this one says.
+fn start_at<R: Files>(rt: &R, alloc: Global, file: &str) -> Option<Start> {
     let path = format!(in alloc; "{file}.began").ok()?;
     let mut opened = File::open(rt, path.as_str()).ok()?;
     let mut bytes = [0u8; MOST_BYTES];

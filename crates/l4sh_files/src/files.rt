@@ -10,7 +10,9 @@ use ipc_trace::{
 };
 use l4sh_look::Exit;
 use std::alloc::{AllocError, Global};
+use std::fs;
 use std::marker::Brand;
+use std::os::unix::fs::MetadataExt;
 use std::rt::{Clock, Files};
 use std::sync::ledger::{Blank, Ledger};
 
@@ -87,9 +89,11 @@ pub(crate) fn read_files<R: Files + Input + Eprint + Clock, W: PortWrite>(
     files: &[&str],
     writer: &mut W,
 ) -> Result<History, Ending> {
+    let marks = marks_of(rt, alloc, files)?;
     let mut history = History::new(alloc);
     for place in 0..files.len() {
         let file = files[place];
+        stays(rt, alloc, file, marks.get(place).copied())?;
         if history.is_torn {
             return Err(torn_before(alloc, file));
         }
@@ -109,9 +113,11 @@ pub(crate) fn read_parts<R: Files + Input + Eprint + Clock, W: PortWrite>(
     files: &[&str],
     writer: &mut W,
 ) -> Result<Option<History>, Ending> {
+    let marks = marks_of(rt, alloc, files)?;
     let mut history = History::new(alloc);
     for place in 0..files.len() {
         let file = files[place];
+        stays(rt, alloc, file, marks.get(place).copied())?;
         if history.is_torn {
             return Err(torn_before(alloc, file));
         }
@@ -122,6 +128,49 @@ pub(crate) fn read_parts<R: Files + Input + Eprint + Clock, W: PortWrite>(
         }
     }
     Ok(Some(history))
+}
+
+/// Which file a path names.
+#[derive(Clone, Copy, PartialEq, Eq)]
+enum Mark {
+    /// The one of this device and inode.
+    File { device: u64, inode: u64 },
+    /// Standard input, or none.
+    Other,
+}
+
+/// Which file this path names now.
+fn mark_of<R: Files>(rt: &R, file: &str) -> Mark {
+    match fs::metadata(rt, file) {
+        Ok(found) => Mark::File {
+            device: found.dev(),
+            inode: found.ino(),
+        },
+        Err(_) => Mark::Other,
+    }
+}
+
+/// Which file each path names now. Without memory the ending says so.
+fn marks_of<R: Files>(rt: &R, alloc: Global, files: &[&str]) -> Result<Vec<Mark>, Ending> {
+    let mut marks = Vec::new(alloc);
+    for file in files {
+        if marks.push(mark_of(rt, file)).is_err() {
+            return Err(Ending::from(Exit::NoMemory));
+        }
+    }
+    Ok(marks)
+}
+
+/// A path names the file still that it named at the start: else entries are missing before it, and
+/// that is no fault of the history.
+fn stays<R: Files>(rt: &R, alloc: Global, file: &str, mark: Option<Mark>) -> Result<(), Ending> {
+    if mark == Some(mark_of(rt, file)) {
+        return Ok(());
+    }
+    let text = format!(in alloc;
+        "l4sh: {file}: another file stands there now than at the start, as where l4d goes on in a further one: ask again"
+    );
+    Err(told(1, text))
 }
 
 /// Why a file was not read as a part.

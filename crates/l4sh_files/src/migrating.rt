@@ -9,6 +9,7 @@ use ipc_shell::migrate_trace;
 use ipc_trace::TraceWriter;
 use l4sh_look::Exit;
 use std::alloc::Global;
+use std::fs::File;
 use std::io::{BufWriter, Write};
 use std::marker::Brand;
 use std::rt::{Clock, Files};
@@ -45,7 +46,7 @@ impl<'a> Migration<'a> {
 
 /// Writes the trace of a file, or of standard input, anew into a file, which is made at its first
 /// write.
-pub fn migrate_file<L: Ledger, R: Files + Input + Eprint + Clock, W: PortWrite>(
+pub fn migrate_file<L: Ledger, R: Files<File = File> + Input + Eprint + Clock, W: PortWrite>(
     rt: &R,
     alloc: Global,
     files: &Migration<'_>,
@@ -68,7 +69,7 @@ fn no_file(alloc: Global) -> Ending {
 }
 
 /// The same. The count of the failures of the new file begins as a blank.
-fn migrate_over<L: Ledger, N: Ledger, R: Files + Input + Eprint + Clock, W: PortWrite>(
+fn migrate_over<L: Ledger, N: Ledger, R: Files<File = File> + Input + Eprint + Clock, W: PortWrite>(
     rt: &R,
     alloc: Global,
     files: &Migration<'_>,
@@ -96,7 +97,13 @@ fn migrate_over<L: Ledger, N: Ledger, R: Files + Input + Eprint + Clock, W: Port
 
 /// Writes the trace of a file, or of standard input, anew into this file. The count of the failures
 /// of the new one begins as a blank.
-fn migrate_into<L: Ledger, N: Ledger, F: Write, R: Files + Input + Eprint + Clock, W: PortWrite>(
+fn migrate_into<
+    L: Ledger,
+    N: Ledger,
+    F: Write,
+    R: Files<File = File> + Input + Eprint + Clock,
+    W: PortWrite,
+>(
     rt: &R,
     alloc: Global,
     old: &str,

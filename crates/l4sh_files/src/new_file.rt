@@ -1,22 +1,26 @@
 //! A file that is made at its first write.
-use std::fs::OpenOptions;
-use std::io::{self, Write};
+use std::fs::{File, OpenOptions, TryLockError};
+use std::io::{self, ErrorKind, Write};
 use std::os::unix::fs::OpenOptionsExt;
 use std::rt::Files;
 
 /// The permissions of a file that is made: its owner alone.
 const OWNER_ONLY: u32 = 0o600;
 
-/// A file that is made anew at its first write. Where it was not there only its owner may read it.
+/// What is said of a file that a server has locked.
+const LOCKED: &str = "a server writes it: l4sh rotate makes an older file of it";
+
+/// A file that is made anew at its first write. One that a server writes is left alone. Where it
+/// was not there only its owner may read it.
 #[derive(Drop)]
-pub struct NewFile<'a, R: Files> {
+pub struct NewFile<'a, R: Files<File = File>> {
     rt: &'a R,
     path: &'a str,
-    file: Option<R::File>,
+    file: Option<File>,
     fault: Option<io::Error>,
 }
 
-impl<'a, R: Files> NewFile<'a, R> {
+impl<'a, R: Files<File = File>> NewFile<'a, R> {
     ghost use Rattle.std.specs.Prelude.{◌≡◌, ◌≤◌, IfErr, IfOk, None, Some, length};
 
     /// A file that is not made yet.
@@ -44,14 +48,21 @@ impl<'a, R: Files> NewFile<'a, R> {
         written
     }
 
-    fn made(&self) -> io::Result<R::File> {
+    fn made(&self) -> io::Result<File> {
         let mut options = OpenOptions::new();
         options
             .write(true)
             .create(true)
-            .truncate(true)
+            .truncate(false)
             .mode(OWNER_ONLY);
-        options.open(self.rt, self.path)
+        let file = options.open(self.rt, self.path)?;
+        if file.metadata()?.is_file() {
+            if let Err(TryLockError::WouldBlock) = file.try_lock() {
+                return Err(io::Error::new(ErrorKind::ResourceBusy, LOCKED));
+            }
+            file.set_len(0)?;
+        }
+        Ok(file)
     }
 
     // Notes whether a call failed.
@@ -68,7 +79,7 @@ impl<'a, R: Files> NewFile<'a, R> {
     }
 }
 
-impl<R: Files> Write for NewFile<'_, R> {
+impl<R: Files<File = File>> Write for NewFile<'_, R> {
     fn write(&mut self, buf: &[u8]) -> io::Result<usize> {
         let written = match &mut self.file {
             Some(file) => file.write(buf),

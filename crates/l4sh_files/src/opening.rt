@@ -17,6 +17,9 @@ use std::sync::ledger::Ledger;
 /// The path of standard input.
 const STANDARD_INPUT: &str = "/dev/stdin";
 
+/// What the system says to who opens a socket as a file: no such device or address.
+const SOCKET: i32 = 6;
+
 /// What is done with the trace of a reader.
 pub(crate) trait Task {
     /// Does it, and says how it ended.
@@ -155,7 +158,12 @@ pub fn is_folder<R: Files>(rt: &R, file: &str) -> bool {
 /// A file that cannot be opened is a device that failed, and the reason names it. Without memory
 /// there is no reason.
 pub(crate) fn not_opened(alloc: Global, file: &str, error: &io::Error) -> Ending {
-    let reason = format!(in alloc; "{file}: {error}");
+    let help = if error.raw_os_error() == Some(SOCKET) {
+        ": a socket is no trace: name the folder of the server"
+    } else {
+        ""
+    };
+    let reason = format!(in alloc; "{file}: {error}{help}");
     Ending::Alone {
         exit: Exit::DeviceFailed,
         reason: reason.ok(),

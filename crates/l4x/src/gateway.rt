@@ -3,6 +3,7 @@
 use crate::calling::{Search, Server, thread_of};
 use crate::messages::{Received, message, message_of, receive_any};
 use crate::registration::Registration;
+use crate::room::Room;
 use crate::trouble::Trouble;
 use ipc_base::{PortRead, PortWrite};
 use ipc_client::{Client, Message, Timeout};
@@ -18,7 +19,7 @@ pub const NO_SERVER: u64 = 5;
 ///
 /// The message that goes on has the flag p and shows who asked as its VirtualSender. Who asked
 /// waits for the gateway alone. When the transfer begins that wait is turned to the server, so the
-/// answer does not come through here.
+/// answer does not come through here. Where `l4d` has no room for a request it waits on.
 pub fn serve<I: PortRead, O: PortWrite, R: Wait + Clock + Eprint>(
     rt: &R,
     alloc: Global,
@@ -26,24 +27,46 @@ pub fn serve<I: PortRead, O: PortWrite, R: Wait + Clock + Eprint>(
     registration: Registration,
 ) -> Result<(), Trouble> {
     let mut registration = registration;
+    let mut room = Room::new();
+    let mut waiting = None;
     for _ in rt.forever() {
         registration.keep(rt, alloc, client)?;
-        serve_next(alloc, client, &registration)?;
+        match serve_next(alloc, client, &registration, &waiting) {
+            Ok(next) => {
+                room.is_there();
+                waiting = next;
+            }
+            Err(trouble) => room.wait(rt, trouble)?,
+        }
     }
     Ok(())
 }
 
-// Receives a request, and passes it on.
+// Passes the request on that waits, or receives one where none does.
 fn serve_next<I: PortRead, O: PortWrite>(
     alloc: Global,
     client: &mut Client<I, O>,
     registration: &Registration,
-) -> Result<(), Trouble> {
-    match message_of(receive_any(alloc, client, registration.patience())?)? {
-        Ok(request) if !registration.is_answer(request.sender) => {
-            answer(alloc, client, registration.search(), request)
+    waiting: &Option<Received>,
+) -> Result<Option<Received>, Trouble> {
+    match waiting {
+        Some(request) => {
+            answer(alloc, client, registration.search(), *request)?;
+            Ok(None)
         }
-        _ => Ok(()),
+        None => next_request(alloc, client, registration),
+    }
+}
+
+// Receives a request. None: there is none before the name is registered again.
+fn next_request<I: PortRead, O: PortWrite>(
+    alloc: Global,
+    client: &mut Client<I, O>,
+    registration: &Registration,
+) -> Result<Option<Received>, Trouble> {
+    match message_of(receive_any(alloc, client, registration.patience())?)? {
+        Ok(request) if !registration.is_answer(request.sender) => Ok(Some(request)),
+        _ => Ok(None),
     }
 }
 

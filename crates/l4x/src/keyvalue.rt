@@ -1,6 +1,7 @@
 //! A server that keeps words by words.
 use crate::messages::{Received, message, message_of, receive_any};
 use crate::registration::Registration;
+use crate::room::Room;
 use crate::trouble::Trouble;
 use ipc_base::{PortRead, PortWrite};
 use ipc_client::{Answer, Buffers, Client, Message};
@@ -35,7 +36,7 @@ pub fn serve<I: PortRead, O: PortWrite, R: Wait + Clock + Eprint>(
     served
 }
 
-/// The same from a table that is kept.
+/// The same from a table that is kept. Where `l4d` has no room for an answer it waits on.
 fn serve_from<I: PortRead, O: PortWrite, R: Wait + Clock + Eprint>(
     rt: &R,
     alloc: Global,
@@ -43,10 +44,17 @@ fn serve_from<I: PortRead, O: PortWrite, R: Wait + Clock + Eprint>(
     registration: &mut Registration,
     table: &mut BTreeMap<u64, u64>,
 ) -> Result<(), Trouble> {
+    let mut room = Room::new();
     let mut waiting = None;
     for _ in rt.forever() {
         registration.keep(rt, alloc, client)?;
-        waiting = next_request(alloc, client, registration, table, waiting)?;
+        match next_request(alloc, client, registration, table, &waiting) {
+            Ok(next) => {
+                room.is_there();
+                waiting = next;
+            }
+            Err(trouble) => room.wait(rt, trouble)?,
+        }
     }
     Ok(())
 }
@@ -58,10 +66,10 @@ fn next_request<I: PortRead, O: PortWrite>(
     client: &mut Client<I, O>,
     registration: &Registration,
     table: &mut BTreeMap<u64, u64>,
-    waiting: Option<Received>,
+    waiting: &Option<Received>,
 ) -> Result<Option<Received>, Trouble> {
     let next = match waiting {
-        Some(request) => answer_and_wait(alloc, client, registration, table, request),
+        Some(request) => answer_and_wait(alloc, client, registration, table, *request),
         None => receive_any(alloc, client, registration.patience()),
     };
     match message_of(next?)? {

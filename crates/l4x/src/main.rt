@@ -15,15 +15,19 @@ mod names;
 mod naming;
 mod registration;
 mod role;
+mod room;
 mod sleeper;
 mod standing;
 mod table;
 mod trouble;
 
 use calling::{Search, Server};
+use finding::MAX_VERSION;
 use ipc_base::{Failures, Past, PortRead, PortWrite, ReadPort, WritePort};
-use ipc_client::{Client, PATIENCE, PatientStream, Waiter, await_end};
-use ipc_host::{NoWords, NotingReader, NotingWriter, StandardStreams, tell_no_text, words_of};
+use ipc_client::{Client, FIRST_WAIT, PATIENCE, PatientStream, Waiter, await_end};
+use ipc_host::{
+    NoWords, NotingReader, NotingWriter, StandardStreams, connect_within, tell_no_text, words_of,
+};
 use ipc_words::ThreadId;
 use l4sh_options::tell_version_of;
 use mistake::Mistake;
@@ -126,11 +130,22 @@ fn obey<R: Net + Wait + Clock + Print + Eprint>(
 }
 
 /// Connects to the first space of a server.
-fn connect<R: Net>(rt: &R, alloc: Global, dir: &str) -> Result<UnixStream, Trouble> {
+fn connect<R: Net + Wait + Clock + Eprint>(
+    rt: &R,
+    alloc: Global,
+    dir: &str,
+) -> Result<UnixStream, Trouble> {
     let Ok(path) = format!(in alloc; "{dir}/space1") else {
         return Err(Trouble::NoMemory);
     };
-    match UnixStream::connect(rt, path.as_str()) {
+    let player = Player { rt, dir };
+    match connect_within(
+        rt,
+        path.as_str(),
+        PATIENCE,
+        FIRST_WAIT,
+        || player.note_wait(),
+    ) {
         Ok(stream) => Ok(stream),
         Err(error) => Err(unconnected(error.kind())),
     }
@@ -141,6 +156,8 @@ fn unconnected(kind: ErrorKind) -> Trouble {
     match kind {
         ErrorKind::PermissionDenied => Trouble::Denied,
         ErrorKind::ConnectionRefused => Trouble::Closed,
+        ErrorKind::TimedOut => Trouble::Silent,
+        ErrorKind::InvalidFilename => Trouble::TooLong,
         _ => Trouble::NoServer,
     }
 }
@@ -232,7 +249,7 @@ fn play<I: PortRead, O: PortWrite, R: Wait + Clock + Print + Eprint>(
     ensures sleeps { (micros : ℕ) → task.entry.role ≡ Role.Sleep micros
         → OnOk result (SleepsThrough client.old client.new micros) }
 {
-    let own = messages::greet(client, task.role.number())?;
+    let own = messages::greet_as(client, task.role)?;
     perform(rt, alloc, client, own, task)?;
     client.bye()?;
     Ok(())
@@ -320,14 +337,25 @@ fn pass_on<I: PortRead, O: PortWrite, R: Wait + Clock + Eprint>(
 }
 
 /// The name server.
-fn serve_names<I: PortRead, O: PortWrite, R: Wait + Print>(
+fn serve_names<I: PortRead, O: PortWrite, R: Wait + Clock + Print + Eprint>(
     rt: &R,
     alloc: Global,
     client: &mut Client<I, O>,
     own: ThreadId,
 ) -> Result<(), Trouble> {
     say_names(rt, own)?;
+    tell_hidden(rt, own);
     names::serve(rt, alloc, client)
+}
+
+/// Says where clients do not find a name server of this id by themselves.
+fn tell_hidden<R: Eprint>(rt: &R, own: ThreadId) {
+    if own.version() > MAX_VERSION {
+        // where standard error fails nothing is told
+        let _ = eprintln!(rt;
+            "l4x: clients find a name server of a version up to {MAX_VERSION} by themselves: give them this id, or start l4d anew"
+        );
+    }
 }
 
 /// Prints a word, or `nothing`.

@@ -1,17 +1,24 @@
 //! What is sent, and what comes back from the server.
-ghost use Rattle.std.specs.Prelude.{◌≡◌, IfOk};
+ghost use Rattle.std.specs.Prelude.{◌≡◌, ℕ, IfOk};
 ghost use Rattle.ipc_client.specs.Asking.{Answers};
-ghost use Rattle.l4x.specs.Sleeping.{failed_code};
+ghost use Rattle.l4x.specs.Sleeping.{failed_code, sleeper_number};
 ghost use Rattle.ipc_frame.specs.declared.version.WireVersion.TheVariants.{One};
 
+use crate::role::Role;
 use crate::table::MAX_NAME_BYTES;
-use crate::trouble::Trouble;
+use crate::trouble::{NUMBER_TAKEN, Trouble};
 use ipc_base::{PortRead, PortWrite};
 use ipc_client::{Answer, Buffers, Client, Failure, Greeting, Message, Timeout};
 use ipc_frame::Frame;
 use ipc_items::StringList;
 use ipc_words::ThreadId;
 use std::alloc::Global;
+
+/// The number that a caller asks for where its own is taken, and then those below.
+const FIRST_FREE: u16 = 1_023;
+
+/// How many of them it asks for.
+const TRIES: u16 = 64;
 
 /// A message that was received: at most two of its words.
 #[derive(Clone, Copy)]
@@ -24,8 +31,40 @@ pub struct Received {
     pub words: [u64; 2],
 }
 
-/// Says HELLO.
-pub fn greet<I: PortRead, O: PortWrite>(
+/// Says HELLO as the thread of a role. A caller whose number is taken takes another one.
+pub fn greet_as<I: PortRead, O: PortWrite>(
+    client: &mut Client<I, O>,
+    role: Role<'_>,
+) -> Result<ThreadId, Trouble>
+    ensures sleeper { (micros : ℕ) → role.entry ≡ Role.Sleep micros
+        → IfOk result (λ thread. Answers client.old client.new (Frame.Hello sleeper_number One)
+        (Frame.Welcome thread)) }
+{
+    match role {
+        Role::Put { .. } | Role::Get { .. } | Role::LookUp(_) => {
+            greet_caller(client, role.number())
+        }
+        _ => greet(client, role.number()),
+    }
+}
+
+// Says HELLO with this number, or where it is taken with the first one that is free.
+fn greet_caller<I: PortRead, O: PortWrite>(
+    client: &mut Client<I, O>,
+    number: u16,
+) -> Result<ThreadId, Trouble> {
+    let mut greeted = greet(client, number);
+    for back in 0..TRIES {
+        if !matches!(greeted, Err(Trouble::Refused(NUMBER_TAKEN))) {
+            return greeted;
+        }
+        greeted = greet(client, FIRST_FREE.saturating_sub(back));
+    }
+    greeted
+}
+
+// Says HELLO.
+fn greet<I: PortRead, O: PortWrite>(
     client: &mut Client<I, O>,
     number: u16,
 ) -> Result<ThreadId, Trouble>

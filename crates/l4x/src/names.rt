@@ -5,6 +5,7 @@ mod registering;
 
 use crate::messages::{name_buffer, next_of};
 use crate::naming::{NameError, Reply, Request};
+use crate::room::Room;
 use crate::table::Table;
 use crate::trouble::Trouble;
 use answering::answer;
@@ -14,6 +15,7 @@ use ipc_words::ThreadId;
 use looking_up::{list, look_up};
 use registering::register;
 use std::alloc::Global;
+use std::rt::Clock;
 use std::sync::Wait;
 
 /// An answer, and the next request where one was taken meanwhile.
@@ -25,8 +27,26 @@ pub struct Served {
     pub next: Option<Received>,
 }
 
+/// What is in the server's hands.
+#[derive(Drop)]
+enum Work {
+    /// Nothing: the next request is to be received.
+    Nothing,
+    /// A request that is to be served.
+    Request(Received),
+    /// An answer that is to be sent to this thread.
+    Answer(ThreadId, Served),
+}
+
+/// Work that could not be done, and why.
+#[derive(Drop)]
+struct Undone {
+    work: Work,
+    trouble: Trouble,
+}
+
 /// Answers requests for ever. Who does not wait for its answer gets none.
-pub fn serve<I: PortRead, O: PortWrite, R: Wait>(
+pub fn serve<I: PortRead, O: PortWrite, R: Wait + Clock + Eprint>(
     rt: &R,
     alloc: Global,
     client: &mut Client<I, O>,
@@ -37,59 +57,122 @@ pub fn serve<I: PortRead, O: PortWrite, R: Wait>(
     served
 }
 
-// The same from a table that is kept.
-fn serve_from<I: PortRead, O: PortWrite, R: Wait>(
+// The same from a table that is kept. Work for which `l4d` has no room is done again.
+fn serve_from<I: PortRead, O: PortWrite, R: Wait + Clock + Eprint>(
     rt: &R,
     alloc: Global,
     client: &mut Client<I, O>,
     table: &mut Table,
 ) -> Result<(), Trouble> {
-    let mut waiting = None;
+    let mut room = Room::new();
+    let mut work = Work::Nothing;
     for _ in rt.forever() {
-        waiting = serve_next(alloc, client, table, waiting)?;
+        match turn(alloc, client, table, work) {
+            Ok(next) => {
+                room.is_there();
+                work = next;
+            }
+            Err(undone) => {
+                let Undone {
+                    work: left,
+                    trouble,
+                } = undone;
+                work = left;
+                room.wait(rt, trouble)?;
+            }
+        }
     }
-    drop(waiting);
+    drop(work);
     Ok(())
 }
 
-// Answers the request that waits, or receives one where none does.
-fn serve_next<I: PortRead, O: PortWrite>(
+// Does the work that is there, and has the next one.
+fn turn<I: PortRead, O: PortWrite>(
     alloc: Global,
     client: &mut Client<I, O>,
     table: &mut Table,
-    waiting: Option<Received>,
-) -> Result<Option<Received>, Trouble> {
-    match waiting {
-        Some(request) => turn(alloc, client, table, request),
-        None => receive_from(alloc, client, ThreadId::ANYTHREAD, Timeout::never()),
+    work: Work,
+) -> Result<Work, Undone> {
+    match work {
+        Work::Nothing => receive(alloc, client),
+        Work::Request(request) => serve_request(alloc, client, table, request),
+        Work::Answer(sender, served) => send_answer(alloc, client, sender, served),
     }
 }
 
-// A request that a sender makes, received within this time.
-fn receive_from<I: PortRead, O: PortWrite>(
+// Receives a request.
+fn receive<I: PortRead, O: PortWrite>(
     alloc: Global,
     client: &mut Client<I, O>,
-    sender: ThreadId,
-    wait: Timeout,
-) -> Result<Option<Received>, Trouble> {
-    next_of(client.receive(sender, wait, name_buffer(alloc)?)?)
+) -> Result<Work, Undone> {
+    match receive_any(alloc, client) {
+        Ok(came) => Ok(work_of(came)),
+        Err(trouble) => Err(Undone {
+            work: Work::Nothing,
+            trouble,
+        }),
+    }
 }
 
-/// Answers a request. The next one is that which was taken meanwhile, or the next that comes.
-pub fn turn<I: PortRead, O: PortWrite>(
+// The next request that comes. None where a call of the server failed.
+fn receive_any<I: PortRead, O: PortWrite>(
+    alloc: Global,
+    client: &mut Client<I, O>,
+) -> Result<Option<Received>, Trouble> {
+    let buffers = name_buffer(alloc)?;
+    next_of(client.receive(ThreadId::ANYTHREAD, Timeout::never(), buffers)?)
+}
+
+// What is to be done with a request that came.
+fn work_of(came: Option<Received>) -> Work {
+    match came {
+        Some(request) => Work::Request(request),
+        None => Work::Nothing,
+    }
+}
+
+// Finds the answer to a request.
+fn serve_request<I: PortRead, O: PortWrite>(
     alloc: Global,
     client: &mut Client<I, O>,
     table: &mut Table,
     request: Received,
-) -> Result<Option<Received>, Trouble> {
-    let sender = request.sender();
-    let served = serve_request(alloc, client, table, &request);
-    drop(request);
-    answer(alloc, client, sender, served?)
+) -> Result<Work, Undone> {
+    match answer_to(alloc, client, table, &request) {
+        Ok(served) => {
+            let sender = request.sender();
+            drop(request);
+            Ok(Work::Answer(sender, served))
+        }
+        Err(trouble) => Err(Undone {
+            work: Work::Request(request),
+            trouble,
+        }),
+    }
+}
+
+// Sends an answer. The next request is that which was taken meanwhile, or the next that comes.
+fn send_answer<I: PortRead, O: PortWrite>(
+    alloc: Global,
+    client: &mut Client<I, O>,
+    sender: ThreadId,
+    served: Served,
+) -> Result<Work, Undone> {
+    match answer(alloc, client, sender, &served) {
+        Ok(came) => {
+            let Served { reply, next } = served;
+            drop(reply);
+            Ok(work_of(next.or(came)))
+        }
+        Err(trouble) => Err(Undone {
+            work: Work::Answer(sender, served),
+            trouble,
+        }),
+    }
 }
 
 // What is answered to a request.
-fn serve_request<I: PortRead, O: PortWrite>(
+fn answer_to<I: PortRead, O: PortWrite>(
     alloc: Global,
     client: &mut Client<I, O>,
     table: &mut Table,

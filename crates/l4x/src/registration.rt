@@ -30,23 +30,30 @@ pub struct Registration {
 }
 
 impl Registration {
-    /// Registers a server, where servers are looked for by names.
-    pub fn new<I: PortRead, O: PortWrite, R: Clock>(
+    /// Registers a server, where servers are looked for by names. Where `l4d` has no room for that
+    /// it is tried again later.
+    pub fn new<I: PortRead, O: PortWrite, R: Clock + Eprint>(
         rt: &R,
         alloc: Global,
         client: &mut Client<I, O>,
         server: Server,
         search: Search,
     ) -> Result<Registration, Trouble> {
-        if let Search::Name = search {
-            register(alloc, client, server.name(), Timeout::never())?;
-        }
-        Ok(Registration {
+        let registered = match search {
+            Search::Number => Ok(()),
+            Search::Name => register(alloc, client, server.name(), Timeout::never()),
+        };
+        let mut registration = Registration {
             server,
             search,
             last: Instant::now(rt).ok(),
             is_told: false,
-        })
+        };
+        match registered {
+            Err(trouble) if trouble.lacks_room() => registration.tell(rt, trouble),
+            other => other?,
+        }
+        Ok(registration)
     }
 
     /// How other servers are looked for.
@@ -90,7 +97,7 @@ impl Registration {
                 self.is_told = false;
                 Ok(())
             }
-            Err(trouble) if trouble.passes() => {
+            Err(trouble) if trouble.passes() || trouble.lacks_room() => {
                 self.tell(rt, trouble);
                 Ok(())
             }

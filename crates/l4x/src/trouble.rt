@@ -14,14 +14,24 @@ pub const USAGE: &str = "usage: l4x DIR ROLE, where the role is one of
 
     keyvalue                   thread 1, which keeps a word under each word
     gateway                    thread 2, which passes requests on to thread 1
-    put KEY VALUE [gateway]    thread 3, which puts a value
-    get KEY [gateway]          thread 3, which prints the value, or nothing
+    put KEY VALUE [gateway]    puts a value
+    get KEY [gateway]          prints the value, or the word nothing
     sleep MICROSECONDS         thread 4, which sleeps
     names                      thread 255, a name server
-    lookup NAME                thread 3, which prints the live thread of a name, or nothing (status 1)
+    lookup NAME                prints the live thread of a name, or the word nothing (status 1)
 
 With --names as the last word a server registers as keyvalue or gateway, and who looks for one asks the name server.
-Without it a server is looked for by its thread number. l4x --version tells the version.";
+Without it a server is looked for by its thread number. put, get and lookup are thread 3, or where that
+is taken the first one that is free from 1023 down. l4x --version tells the version.";
+
+/// The number after K of a HELLO whose thread number is that of a live thread.
+pub const NUMBER_TAKEN: u8 = 2;
+
+/// That of a call for which `l4d` has no memory at the moment.
+const NO_MEMORY: u8 = 4;
+
+/// That of a call for which its history has no room at the moment.
+const HISTORY_FULL: u8 = 5;
 
 /// What is said where a path refuses connections.
 const CLOSED: &str =
@@ -44,6 +54,8 @@ pub enum Trouble {
     Closed,
     /// This user may not connect there.
     Denied,
+    /// The path of the socket is too long.
+    TooLong,
     /// The server does not say WELCOME in its time.
     Silent,
     /// Standard output failed, and why.
@@ -78,6 +90,7 @@ impl Trouble {
             Trouble::Closed => CLOSED,
             Trouble::Denied =>
                 "no permission to connect: the modes of this path and its folder say who may",
+            Trouble::TooLong => "the path is too long: that of a socket has at most 107 bytes",
             Trouble::LongMessage => "the message is past its limits",
             Trouble::NoNames => "there is no name server: start l4x DIR names",
             Trouble::NotPassed =>
@@ -92,6 +105,11 @@ impl Trouble {
             self,
             Trouble::NoNames | Trouble::Name(_) | Trouble::Failed(_)
         )
+    }
+
+    /// Whether `l4d` has no room for the call at the moment. Nothing of the call was done.
+    pub fn lacks_room(self) -> bool {
+        matches!(self, Trouble::Refused(NO_MEMORY | HISTORY_FULL))
     }
 
     /// The exit status: 2 for bad words, else 1.
@@ -168,7 +186,7 @@ fn put_refused<W: fmt::Write>(f: &mut fmt::Formatter<W>, number: u8) -> fmt::Res
     write!(f, "refused: K{number}")?;
     put_meaning(f, b'K', number)?;
     match number {
-        2 => f.write_str("; end the program that has it, or wait until it has ended"),
+        NUMBER_TAKEN => f.write_str("; end the program that has it, or wait until it has ended"),
         _ => Ok(()),
     }
 }

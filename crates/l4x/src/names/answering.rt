@@ -8,23 +8,18 @@ use ipc_client::{Client, Message, Received, Timeout};
 use ipc_words::ThreadId;
 use std::alloc::Global;
 
-/// Sends what is answered, and has the next request.
+/// Sends what is answered. It brings the next request that comes, unless one is there already.
 pub(super) fn answer<I: PortRead, O: PortWrite>(
     alloc: Global,
     client: &mut Client<I, O>,
     sender: ThreadId,
-    served: Served,
+    served: &Served,
 ) -> Result<Option<Received>, Trouble> {
-    let Served { reply, next } = served;
-    let message = message_of(alloc, &reply);
-    drop(reply);
-    match message {
-        Ok(message) => send_answer(alloc, client, sender, message, next),
-        Err(trouble) => {
-            drop(next);
-            Err(trouble)
-        }
+    let message = message_of(alloc, &served.reply)?;
+    if served.next.is_some() {
+        return send_at_once(client, sender, message);
     }
+    answer_and_wait(alloc, client, sender, message)
 }
 
 // The message of a reply.
@@ -36,46 +31,15 @@ fn message_of(alloc: Global, reply: &Reply) -> Result<Message, Trouble> {
     }
 }
 
-// Sends the message of an answer, and has the next request: the one that is there already, or the
-// next that comes.
-fn send_answer<I: PortRead, O: PortWrite>(
-    alloc: Global,
-    client: &mut Client<I, O>,
-    sender: ThreadId,
-    message: Message,
-    next: Option<Received>,
-) -> Result<Option<Received>, Trouble> {
-    match next {
-        Some(next) => answer_meanwhile(client, sender, message, next),
-        None => answer_and_wait(alloc, client, sender, message),
-    }
-}
-
-// Answers while the next request is there already, which is given back.
-fn answer_meanwhile<I: PortRead, O: PortWrite>(
-    client: &mut Client<I, O>,
-    sender: ThreadId,
-    message: Message,
-    next: Received,
-) -> Result<Option<Received>, Trouble> {
-    match send_at_once(client, sender, message) {
-        Ok(()) => Ok(Some(next)),
-        Err(trouble) => {
-            drop(next);
-            Err(trouble)
-        }
-    }
-}
-
 // Sends a message to a thread that waits for it. One that does not gets none.
 fn send_at_once<I: PortRead, O: PortWrite>(
     client: &mut Client<I, O>,
     to: ThreadId,
     message: Message,
-) -> Result<(), Trouble> {
+) -> Result<Option<Received>, Trouble> {
     let answer = client.send(to, message, Timeout::zero())?;
     drop(next_of(answer)?);
-    Ok(())
+    Ok(None)
 }
 
 // Answers, and receives the next request.

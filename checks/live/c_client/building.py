@@ -233,4 +233,19 @@ def check_library(programs, l4d, room):
         with Server(l4d, room, trace=False) as server:
             said = subprocess.run([os.path.join(room, way), server.dir], check=True, capture_output=True, text=True, timeout=SECONDS).stdout
             assert "non-existing partner" in said, said
+    check_unloaded(os.path.join(library, shared), l4d, room)
     return len(exported)
+
+
+def check_unloaded(library, l4d, room):
+    """A thread that loads the library, connects, unloads it and returns ends its L4 thread, and the program goes on."""
+    source, program = os.path.join(room, "plug_in.c"), os.path.join(room, "plug_in")
+    with open(source, "w") as file:
+        file.write("#include <dlfcn.h>\n#include <pthread.h>\nstatic char **words;\n"
+                   "static void *plug_in(void *nothing) { void *l4 = dlopen(words[1], RTLD_NOW); int (*join)(const char *, unsigned, unsigned);\n"
+                   "*(void **) &join = dlsym(l4, \"l4_connect\"); nothing = join(words[2], 1, 2) == 0 ? words : nothing; dlclose(l4); return nothing; }\n"
+                   "int main(int argc, char **argv) { pthread_t thread; void *joined = 0; words = argv;\n"
+                   "return argc != 3 || pthread_create(&thread, 0, plug_in, 0) != 0 || pthread_join(thread, &joined) != 0 || joined == 0; }\n")
+    cc("-std=c11", "-Wall", "-Wextra", "-Werror", "-pthread", source, "-ldl", "-o", program)
+    with Server(l4d, room, trace=False) as server:
+        subprocess.run([program, library, server.dir], check=True, timeout=SECONDS)

@@ -119,7 +119,7 @@ def check_errors(programs, l4d, room):
 
     nowhere = os.path.join(room, "nowhere")
     say = Say(programs["say"], nowhere)
-    want(("", 0, say.connect(2)[2]), rf"^F10: .*: No such file or directory \({nowhere}/space1\)$")
+    want(("", 0, say.connect(2)[2]), rf"^F10: .*: No such file or directory; start l4d with this folder and so many --spaces \({nowhere}/space1\)$")
     began = time.time()
     want(say.ask(f"connect_wait 300000 {nowhere} 1 2 1"), r"^F10: .*No such file")
     assert time.time() - began > 0.29, "it was not waited for"
@@ -153,10 +153,10 @@ def check_errors(programs, l4d, room):
         one, two = Say(programs["say"], server.dir, 1), Say(programs["say"], server.dir)
         # what failed stays with its path beside a later call that succeeds
         for number, line in ((7, f"connect {server.dir} 1 7 2"), (8, f"connect_wait 20000000 {server.dir} 1 8 1")):
-            want(say.ask(f"connect {nowhere} 1 2 1"), rf"^F10: .*: No such file or directory \({nowhere}/space1\)$")
+            want(say.ask(f"connect {nowhere} 1 2 1"), rf"^F10: .*: No such file or directory; start l4d with this folder and so many --spaces \({nowhere}/space1\)$")
             got = say.ask(line)
             assert got[0] == f"0 {thread_id(number):x}", got
-            want(got, rf"^F10: .*: No such file or directory \({nowhere}/space1\)$")
+            want(got, rf"^F10: .*: No such file or directory; start l4d with this folder and so many --spaces \({nowhere}/space1\)$")
             want(say.ask("lookup a"), r"^N6: .* \(a\)$")
             say.ask("disconnect")
         want(one.ask("item -5"), "^C11: no string item")

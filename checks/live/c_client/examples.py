@@ -12,11 +12,12 @@ import time
 
 from c_client.building import build_pages
 from c_client.saying import SECONDS, ZERO, Past, Say, Server, compare, told_to, wait_until_gone, wait_until_waiting, word_of_id
-from frames import ANY, FAILED, NIL, thread_id
+from frames import ANY, FAILED, NIL, ipc, thread_id
 from kit import ROOT
 from name_server import NameServer
 from page_text import blocks_of
 from protocol_tables import MAX_NAME_BYTES, MAX_STRING_BYTES, MEANINGS
+from serving import Client
 from traces import entries_in
 
 # The label of the answer that stands for one that cannot be sent.
@@ -84,6 +85,15 @@ def check_names(programs, l4d, l4sh, room, start):
         began = time.time()
         want(ask(one, "register_wait 200000 echo"), ("-1", 3, "N6: there is no name server (echo)"))
         assert time.time() - began > 0.19, "nothing was waited for"
+        # one that ends while it has the request is as one that is not there
+        ending = Client(server.path, 255)
+        ending.line.sendall(ipc(NIL, ANY, buffers=(MAX_NAME_BYTES << 10, 0)))
+        one.tell("lookup_wait 600000 a")
+        ending.outcome()
+        began = time.time()
+        ending.bye()
+        want(one.hear(), ("0", 3, "N6: there is no name server (a)"))
+        assert time.time() - began > 0.4, "it gave up"
         one.tell("register_wait 20000000 echo")
         time.sleep(0.1)
         names = start(server.path)
@@ -95,6 +105,12 @@ def check_names(programs, l4d, l4sh, room, start):
         want(ask(two, "register echo"), ("-1", 98, "REFUSED N3: another live thread has the name (echo)"))
         # what failed stays with its name beside a later call that succeeds
         want(ask(two, "register other"), ("0", 0, "REFUSED N3: another live thread has the name (echo)"))
+        # one that was chosen is asked alone, also where it has ended
+        ask(two, "name_server c800000001")
+        for asked in ("register private", "register private", "register_wait 200000 private"):
+            want(ask(two, asked), ("-1", 3, "N6: there is no name server (private)"))
+        ask(two, "name_server 0")
+        want(ask(two, "lookup private"), ("0", 2, "N7: no live thread has the name (private)"))
         want(ask(one, "list -")[0], f"1 echo {one.thread:x}")
         want(ask(one, "list echo")[0], f"1 other {two.thread:x}")
         want(ask(one, "list other")[0], "0 - 0")
@@ -116,7 +132,7 @@ def check_names(programs, l4d, l4sh, room, start):
         wait_until_gone(two, names.thread)
         want(ask(two, "lookup echo")[1], 3)
         again = start(server.path)
-        want(again.thread, thread_id(255, 2))
+        want(again.thread, thread_id(255, 3))
         want(ask(two, "lookup echo")[1], 2)
         want(ask(two, "register echo")[0], "0")
         if hasattr(again, "process"):
@@ -141,7 +157,7 @@ def stopped_look_ups(server, asker, other, process):
             assert select.select([asker.process.stdout], [], [], 5)[0], f"{asked} of 1 second has not ended after 5"
             answer, number, words = asker.hear()
             assert (answer, number) == (wanted, errno.ETIMEDOUT) and time.time() - began > 0.9, (asked, answer, number, words)
-            told = r"(send|receive) phase (to|from) 255\.2: timeout \(e=1, offset 0\), the name server did not answer \(echo\)"
+            told = r"(send|receive) phase (to|from) 255\.3: timeout \(e=1, offset 0\), the name server did not answer \(echo\)"
             assert re.fullmatch(told, words), words
         # the answer that was given up, of a look up of the asker's own name, is no answer to its next request
         asker.tell("lookup nobody")
@@ -338,7 +354,7 @@ def check_worst(programs, l4d, room):
             _, errors = process.communicate(timeout=SECONDS)
             assert process.returncode == 1 and (number == 40 or "F9: the connection ended" in errors), (number, process.returncode, errors)
             # all but TUTORIAL's loop have told what they could not answer
-            assert number == 40 or errors.count("got no answer: send phase to ") > 5 or number == 9, (number, errors)
+            assert number == 40 or unanswered_in(errors.splitlines()) > 5 or number == 9, (number, errors)
             count += 1
     return count + check_worst_of_cancel(programs, l4d, room) + check_unsendable(programs, l4d, room) + check_driver(programs, l4d, room) + check_parts(programs, l4d, room)
 
@@ -401,9 +417,32 @@ def check_unsendable(programs, l4d, room):
             lines = file.read().splitlines()
         nobody = "l4_serve: 2.1 got no answer: send phase to 2.1: timeout (e=1, offset 0)"
         assert lines[0] == f"l4_serve: 2.1 gets L4_FUNCTION_FAILED in place of an answer: F4: {MEANINGS['F4']}" and nobody in lines[1:], lines
+        told_of_many(serving, asker, told, nobody)
         serving.end()
         asker.end()
-        return len(labels) + 5
+        return len(labels) + 6
+
+
+def told_of_many(serving, asker, told, line):
+    """The same failure again and again: the first is told, and then one line a second, with how many were left out."""
+    assert serving.connect(1)[0] == 0
+    serving.tell(f"serve_telling {told}")
+    for _ in range(500):
+        assert asker.code(to=serving.thread, label=0) == 0
+    time.sleep(1.1)
+    for label in (0, 0, 9):
+        assert asker.code(to=serving.thread, label=label) == 0
+    assert serving.hear()[0] == "0"
+    with open(told, encoding="utf-8") as file:
+        lines = file.read().splitlines()
+    assert lines[0] == line and 2 <= len(lines) < 20 and unanswered_in(lines) == 502, lines
+
+
+def unanswered_in(lines):
+    """How many got no answer, as the lines of a server tell it."""
+    left_out = r"(?:; (\d+) more like it were left out)?"
+    told = [re.fullmatch(rf"l4_serve: (?:[\d.]+ got no answer: send phase to .*?{left_out}|(\d+) more got no answer)", it) for it in lines]
+    return sum(int(it[2] or 0) or 1 + int(it[1] or 0) for it in told if it)
 
 
 def check_driver(programs, l4d, room):

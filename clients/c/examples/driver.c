@@ -119,6 +119,11 @@ static void *watch(void *data)
 	L4_Sleep(L4_ZeroTime);
 	if (L4_IsNilThread(L4_Myself()))
 		fail("watch");
+	if (ferror(driver->device)) {
+		fputs("driver: the device cannot be read\n", stderr);
+		exit(1);
+	}
+	fputs("driver: the device has ended\n", stderr);
 	exit(0);
 }
 

@@ -55,6 +55,14 @@ int l4_refuse(struct thread *thread, enum source source, char class, unsigned nu
 	return tell(thread, failure_of(source, class, number, 0));
 }
 
+int l4_refuse_null(struct thread *thread, const char *argument)
+{
+	int status = l4_refuse(thread, FOUND_HERE, 'C', C_NO_MEMORY_THERE);
+
+	(void) snprintf(thread->last.about, sizeof thread->last.about, "%s is NULL", argument);
+	return status;
+}
+
 int l4_lose(struct thread *thread, enum source source, char class, unsigned number, int cause)
 {
 	l4_close(thread);
@@ -138,6 +146,8 @@ static void append_outcome(struct text *text, const struct failure *outcome)
 		append_receive_overflow(text, &outcome->phases);
 	else if (error == E_MESSAGE_OVERFLOW)
 		append_send_overflow(text, outcome->string);
+	else if (error == E_NON_EXISTING_PARTNER && is_receive && outcome->phases.sends && L4_IsThreadEqual(outcome->phases.from, outcome->phases.to))
+		append(text, ", which has ended, or the thread to which it passed the message on");
 	if (outcome->waited != 0)
 		append_waited(text, outcome->waited);
 	if (outcome->hint != NULL)

@@ -136,6 +136,8 @@ struct thread {
 	struct failure lost;
 	/* L4_nilthread: not looked for yet */
 	L4_ThreadId_t name_server;
+	/* whether the program chose it: then no other one is asked */
+	bool has_chosen_names;
 	struct kept kept;
 	char text[512];
 	/* the path that was connected to, and the name that was asked for */
@@ -169,6 +171,8 @@ void l4_tell_about(struct failure *failure, const char *about);
 int l4_tell_outcome(struct thread *thread, L4_Word_t code, const struct phases *phases, unsigned string);
 /* A refusal of the server, or of the library before anything was sent: the connection stays. */
 int l4_refuse(struct thread *thread, enum source source, char class, unsigned number);
+/* An argument of a function is null, as "l4_serve: answer". */
+int l4_refuse_null(struct thread *thread, const char *argument);
 /* A fault told by the server or found by the library: the connection is closed. errno is cause, or if that is 0 the one
  * that goes with the number. */
 int l4_lose(struct thread *thread, enum source source, char class, unsigned number, int cause);

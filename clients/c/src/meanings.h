@@ -16,7 +16,7 @@ static const struct meaning meanings[] = {
 	{ 'K', K_NUMBER_TAKEN, EADDRINUSE, "a thread of that number is live" },
 	{ 'K', K_NUMBER_WORN, EADDRNOTAVAIL, "the versions of that thread number are used up" },
 	{ 'K', K_NO_MEMORY, ENOMEM, "the server has no memory" },
-	{ 'K', K_HISTORY_FULL, ENOSPC, "the history has no room for what the command may bring about" },
+	{ 'K', K_HISTORY_FULL, ENOSPC, "the history of the server is full: of open calls, or of what its trace has not written yet" },
 	{ 'K', K_NO_THREAD, EPROTO, "no such thread is live" },
 	{ 'K', K_BUSY, EPROTO, "the thread has an open call, or an outcome that it has not yet taken" },
 	{ 'K', K_CALLS_SPENT, EOVERFLOW, "the number of the call would pass the limit" },

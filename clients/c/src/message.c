@@ -183,7 +183,7 @@ void L4_MsgPutSimpleStringItem(L4_Msg_t *msg, L4_Word_t t, L4_StringItem_t s)
 
 L4_Word_t L4_MsgWord(const L4_Msg_t *msg, L4_Word_t u)
 {
-	return u < MAX_MESSAGE_WORDS ? msg->raw[1 + u] : 0;
+	return u < untyped_of(msg) ? msg->raw[1 + u] : 0;
 }
 
 void L4_MsgGetWord(const L4_Msg_t *msg, L4_Word_t u, L4_Word_t *w)

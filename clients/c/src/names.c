@@ -39,6 +39,7 @@ struct answer {
 void l4_use_name_server(L4_ThreadId_t server)
 {
 	l4_thread.name_server = server;
+	l4_thread.has_chosen_names = !L4_IsNilThread(server);
 }
 
 /* 1 where a thread of this id is live, 0 where not, -1 where that cannot be asked. A closed receive with zero time
@@ -107,6 +108,8 @@ static int call_live(struct thread *thread, const struct request *request, struc
 	while (call(thread, request, answer) < 0) {
 		if (thread->last.source != OUTCOME || L4_ErrorCode() != NOBODY_TO_SEND_TO)
 			return -1;
+		if (thread->has_chosen_names)
+			return l4_refuse(thread, FOUND_HERE, 'N', N_NO_NAME_SERVER);
 		if (find_server(thread, L4_Version(thread->name_server) + 1) < 0)
 			return -1;
 	}
@@ -173,10 +176,16 @@ static bool is_nobody(const struct failure *failure)
 	return failure->class == 'N' && failure->number == N_NOBODY_HAS_NAME;
 }
 
+/* Whether the name server ended while it had the request. */
+static bool has_ended(const struct failure *failure)
+{
+	return failure->source == OUTCOME && failure->code == NOBODY_TO_RECEIVE_FROM;
+}
+
 /* Whether a name may be found later, as it was not now. */
 static bool is_not_there_yet(const struct failure *failure)
 {
-	return is_timeout(failure) || is_nobody(failure) || (failure->class == 'N' && failure->number == N_NO_NAME_SERVER);
+	return is_timeout(failure) || has_ended(failure) || is_nobody(failure) || (failure->class == 'N' && failure->number == N_NO_NAME_SERVER);
 }
 
 /* How long each phase of a request may take, so that both together end by this moment. */
@@ -290,7 +299,7 @@ int l4_list(const char *after, char name[L4_NAME_BYTES + 1], L4_ThreadId_t *thre
 	struct answer answer = { 0 };
 
 	if (name == NULL || thread == NULL)
-		return l4_refuse(&l4_thread, FOUND_HERE, 'C', C_NO_MEMORY_THERE);
+		return l4_refuse_null(&l4_thread, name == NULL ? "l4_list: name" : "l4_list: thread");
 	if (ask(LIST, after, L4_Never, &answer) < 0)
 		return -1;
 	if (L4_IsNilThread(answer.thread))

@@ -30,6 +30,10 @@ enum {
 
 /* what it means that the connection ended before the thread was live */
 #define TURNED_AWAY " before WELCOME: l4d has no memory or no worker for it, as it says on its standard error, or it ends"
+/* what helps where no path is there, and where nobody listens at it */
+#define NO_PATH "; start l4d with this folder and so many --spaces"
+#define NO_LISTENER "; its l4d has ended (start it with --replace), or the path has had its --connections (--keep-open helps)"
+#define NO_PERMISSION "; who may connect is in the mode of the path and of its folder"
 /* what helps where a live thread has the number */
 #define OTHER_NUMBER "; end the program that has it, or take another number"
 
@@ -140,6 +144,7 @@ static void begin(struct thread *thread, unsigned version)
 	thread->lost = (struct failure) { .source = NOBODY };
 	thread->virtual_sender = L4_nilthread;
 	thread->name_server = L4_nilthread;
+	thread->has_chosen_names = false;
 	thread->kept = (struct kept) { 0 };
 	thread->error_code = 0;
 }
@@ -292,6 +297,8 @@ static int try_to_connect(struct thread *thread, const struct sockaddr_un *addre
 	l4_tell_about(&thread->lost, thread->path);
 	if (is_turned_away(&thread->last))
 		thread->last.hint = thread->lost.hint = TURNED_AWAY;
+	if (error == ENOENT || error == ECONNREFUSED || error == EACCES)
+		thread->last.hint = thread->lost.hint = error == ENOENT ? NO_PATH : error == EACCES ? NO_PERMISSION : NO_LISTENER;
 	if (thread->last.source == SERVER_REFUSED)
 		tell_about_number(thread, number);
 	errno = thread->last.saved_errno;
@@ -316,7 +323,7 @@ static int connect_until(const char *dir, unsigned space, unsigned number, unsig
 	if (thread->is_connected)
 		return l4_refuse(thread, FOUND_HERE, 'C', C_IS_CONNECTED);
 	if (dir == NULL)
-		return l4_refuse(thread, FOUND_HERE, 'C', C_NO_MEMORY_THERE);
+		return l4_refuse_null(thread, "l4_connect: dir");
 	if (version < FIRST_WIRE_VERSION || version > LAST_WIRE_VERSION)
 		return l4_refuse(thread, FOUND_HERE, 'C', C_NO_VERSION);
 	length = snprintf(address.sun_path, sizeof address.sun_path, "%s/space%u", dir, space);

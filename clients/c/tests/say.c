@@ -6,7 +6,7 @@
  *     exreg DEST CONTROL
  *     mrs I WORDS, brs I WORDS          loads registers; I is decimal
  *     send TO, wait                     sends, or accepts, what the registers say
- *     register NAME, register_wait MICROSECONDS NAME, lookup NAME, list NAME
+ *     register NAME, register_wait MICROSECONDS NAME, lookup NAME, list NAME, name_server ID
  *     serve                             answers by the label what cannot be sent (1, 2, 3), and ends by label 9
  *     serve_telling FILE                the same, and l4_serve tells its trouble itself: standard error goes to the file
  *     begin, readable, end              a wait in two parts, and whether its outcome has begun to come
@@ -482,6 +482,8 @@ static void run(char *line)
 		printf("%llx", (unsigned long long) l4_lookup(line).raw);
 	else if (strcmp(command, "list") == 0)
 		list(line);
+	else if (strcmp(command, "name_server") == 0)
+		l4_use_name_server(thread(line));
 	else if (strcmp(command, "connect_wait") == 0)
 		connect_wait(line);
 	else if (strcmp(command, "register_wait") == 0)

@@ -137,14 +137,14 @@ def stopped_names(l4d, l4x):
     # (it has taken the request of the first thread, so its receive phase is what fails; of the second one the send phase)
     for thread in (first, second):
         asked, hasty = names.Names(thread), names.Names(thread, timeout=0.2)
-        in_time(f"{thread.id}: wait_for", 1, lambda: asked.wait_for("kv", 1), l4ipc.NameTimeout, "the name server 255.1 does not answer; waited for kv for 1 second")
+        in_time(f"{thread.id}: wait_for", 1, lambda: asked.wait_for("kv", 1), l4ipc.NameTimeout, "the name server 255.1 does not answer; waited for 'kv' for 1 second")
         in_time(f"{thread.id}: wait_for, of short tries", 1, lambda: hasty.wait_for("kv", 1), l4ipc.NameTimeout, "255.1 does not answer")
         in_time(f"{thread.id}: wait_to_register", 1, lambda: asked.wait_to_register("more", 1), l4ipc.NameTimeout, "255.1 does not answer")
-        text = "to 255.1: timeout (error 0x2): the name server did not answer who has the name kv{}; nothing was delivered"
+        text = "to 255.1: timeout (error 0x2): the name server did not answer who has the name 'kv'{}; nothing was delivered"
         in_time(f"{thread.id}: a call", 1, lambda: thread.call("kv", wait_for=1), l4ipc.Timeout, text.format(", after waiting for 1 second"))
         in_time(f"{thread.id}: a send", 1, lambda: thread.send("kv", wait_for=1), l4ipc.Timeout, text.format(", after waiting for 1 second"))
     in_time("a call that does not wait", 2, lambda: second.call("kv"), l4ipc.Timeout, text.format(""))
-    in_time("aio: wait_for", 1, lambda: asyncio.run(waits_for(server.folder)), l4ipc.NameTimeout, "the name server 255.1 does not answer; waited for kv for 1 second")
+    in_time("aio: wait_for", 1, lambda: asyncio.run(waits_for(server.folder)), l4ipc.NameTimeout, "the name server 255.1 does not answer; waited for 'kv' for 1 second")
     # more clients at once, which wait longer than it is stopped
     serves = beside(lambda: kv.serve(lambda request: Message(0, [42]), tell=lambda *_: None))
     asks = beside(lambda: asyncio.run(calls_of(server.folder, range(10, 30))))
@@ -156,6 +156,42 @@ def stopped_names(l4d, l4x):
     serves(10)
     for thread in (kv, first, second):
         thread.close()
+
+
+def chosen_names(l4d, l4x):
+    """A name server past version 63 is chosen for a thread; whatever asks for a name asks that one then, and no other."""
+    server = Server(l4d)
+    for _ in range(names.MAX_VERSION):
+        server.thread(names.NUMBER).close()
+    # (no version has zero as its six lowest bits)
+    process, chosen = server.start([l4x, server.folder, "names"]), ThreadId.of(names.NUMBER, names.MAX_VERSION + 2)
+    same("the first line of a name server", process.stdout.readline(), f"names {chosen}\n")
+    same("it says who finds it", process.stdout.readline(),
+         "l4x: clients find a name server of a version up to 63 by themselves: give them this id, or start l4d anew\n")
+    kv, asks = l4ipc.Thread(server.folder, 1), l4ipc.Thread(server.folder, 2)
+    told("one that is not chosen", lambda: asks.call("kv"), l4ipc.NoNames, server=None)
+    same("register with one that is chosen", names.Names(kv, chosen).register("kv"), kv.id)
+    names.Names(asks, chosen)
+    serves = beside(lambda: kv.serve(lambda request: Message(0, [42]), tell=lambda *_: None))
+    same("a call of a name", asks.call("kv").words, (42,))
+    same("a coroutine's", asyncio.run(calls_chosen(server.folder, chosen)), (42,))
+    kv.kept.again_at = 0.0
+    asks.send("kv")
+    same("it is registered again where it was chosen", [asks.call("kv").words, kv.kept.again_at > 0], [(42,), True])
+    end(process)
+    wait_until_gone(asks, chosen)
+    for what, does in (("look up", lambda: names.Names(asks).lookup("kv")), ("call", lambda: asks.call("more")), ("send", lambda: asks.send("more"))):
+        told(f"{what} where it has ended", does, l4ipc.NoNames, server=chosen)
+    server.stop()
+    serves(10)
+    for thread in (kv, asks):
+        thread.close()
+
+
+async def calls_chosen(folder, chosen):
+    async with aio.Thread(folder, 3) as thread:
+        aio.Names(thread, chosen)
+        return (await thread.call("kv")).words
 
 
 async def waits_for(folder):
@@ -300,12 +336,8 @@ def looked_up(server, l4x, name):
 
 
 def said_by(server, l4x, *words):
-    """What a role of thread 3 prints, and its status, once the thread of the last one has ended."""
-    for _ in range(500):
-        text, status = output(server.start([l4x, server.folder, *words]))
-        if ": refused: K2: " not in text:
-            break
-    return text, status
+    """What a role of l4x prints, and its status."""
+    return output(server.start([l4x, server.folder, *words]))
 
 
 def name_server_restarts(server, l4x, process):

@@ -2,6 +2,7 @@
 
 import os
 import shutil
+import signal
 import subprocess
 import sys
 import tempfile
@@ -95,14 +96,17 @@ def first_program(l4d):
     programs = blocks_of("clients/python/README.md", "python")[:2]
     check("they have at most 15 lines each", all(program.count("\n") <= 15 for program in programs), programs)
     server = Server(l4d, trace=False)
-    server.start([sys.executable, "-c", programs[0], server.folder])
+    # (a check that a shell runs in the background ignores SIGINT, and so would the program)
+    heeds = "import signal; signal.signal(signal.SIGINT, signal.default_int_handler)\n"
+    server.start([sys.executable, "-c", heeds + programs[0], server.folder])
     with l4ipc.Thread(server.folder, 3) as thread:
         while names.live_thread(thread, 1) is None:
             time.sleep(0.01)
     same("the first program", output(server.start([sys.executable, "-c", programs[1], server.folder])), ("42\n", 0))
     text = output(server.start([sys.executable, f"{ROOT}/examples/echo.py", server.folder, "ask", "42"]))
     same("examples/echo.py asks it, too", text, ("42\n", 0))
-    end(server.started[0])
+    server.started[0].send_signal(signal.SIGINT)
+    same("Ctrl-C ends the server", output(server.started[0]), ("", 0))
     with server.next_thread(1) as thread:
         same("the next version", str(thread.id), "1.2")
     server.stop()

@@ -74,6 +74,7 @@ def serve(directory, path):
         while True:
             for ready, _ in poll.poll():
                 if ready == device and not driver.take_lines(device):
+                    print("the device has ended", flush=True)
                     return
                 # of an answer that has arrived in part, the rest makes it readable again
                 if ready == requests.fileno() and requests.is_over():

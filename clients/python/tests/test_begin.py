@@ -1,6 +1,9 @@
 """A call that is begun, waited for by poll, and finished."""
 
 import select
+import signal
+import socket
+import tempfile
 import unittest
 
 import l4ipc
@@ -99,6 +102,36 @@ class Begin(unittest.TestCase):
                 thread.finish()
             with self.assertRaises(l4ipc.Closed):
                 thread.begin_wait()
+
+    def test_what_the_handler_of_a_signal_raises(self):
+        """It comes out of the call, whatever it is, and that call has closed the thread."""
+        for kind in (TimeoutError, EOFError, ConnectionResetError, OSError, ValueError, KeyboardInterrupt):
+            def handler(number, frame):
+                raise kind("enough")
+
+            before = signal.signal(signal.SIGALRM, handler)
+            for waits in (lambda it: it.wait(), lambda it: it.serve(lambda request: None), lambda it: it.sleep(5), lambda it: (it.begin_wait(), it.finish())):
+                thread, server = scripted(b"", ends=False)
+                self.open += [thread, server]
+                signal.setitimer(signal.ITIMER_REAL, 0.02)
+                with self.subTest(kind), self.assertRaisesRegex(kind, "^enough$"):
+                    waits(thread)
+                with self.assertRaisesRegex(l4ipc.Closed, "no call is made: a call that was interrupted has closed it"):
+                    thread.wait()
+            signal.signal(signal.SIGALRM, before)
+
+    def test_the_same_while_it_connects(self):
+        def handler(number, frame):
+            raise TimeoutError("enough")
+
+        before = signal.signal(signal.SIGALRM, handler)
+        with tempfile.TemporaryDirectory() as folder, socket.socket(socket.AF_UNIX) as silent:
+            silent.bind(f"{folder}/space1")
+            silent.listen()
+            signal.setitimer(signal.ITIMER_REAL, 0.05)
+            with self.assertRaisesRegex(TimeoutError, "^enough$"):
+                l4ipc.Thread(folder, 2, wait_for=10)
+        signal.signal(signal.SIGALRM, before)
 
     def test_wrong_arguments_begin_nothing(self):
         thread, server = self.begun(WORDS)

@@ -293,7 +293,7 @@ class WaitingForAPartner(unittest.TestCase):
             thread.send(FIRST, wait_for=0.2)
         self.assertEqual(caught.exception.waited, 0.2)
         self.assertIn("2.1: send phase to 1.1: non-existing partner (error 0x4), after waiting for 0.2 seconds; nothing was delivered"
-                      "; a server that was started again is 1.2 or later: its name, or names.live_thread, finds it", str(caught.exception))
+                      "; a server that was started again is 1.2 or later: its name finds it, or up to version 63 names.live_thread", str(caught.exception))
         self.assertTrue(4 < len(said(server)) < 20)
         thread.close()
         server.close()
@@ -327,7 +327,7 @@ class Texts(unittest.TestCase):
         strings = Message(0, [], [b"k", b"", b"x" * 9])
         rows = [
             (0x2, lambda it: it.send(FIRST), "2.1: send phase to 1.1: timeout (error 0x2); nothing was delivered"),
-            (0x5, lambda it: it.call(FIRST), "2.1: receive phase from 1.1: non-existing partner (error 0x5); what was sent was delivered, and no answer came"),
+            (0x5, lambda it: it.call(FIRST), "2.1: receive phase from 1.1: non-existing partner (error 0x5), which has ended, or the thread to which it passed the message on; what was sent was delivered, and no answer came"),
             (0x3, lambda it: it.wait(1), "2.1: receive phase from anythread: timeout (error 0x3); nothing was received"),
             (0x7, lambda it: it.reply_wait(FIRST, Message()), "cancelled by another thread (error 0x7); what was sent was delivered, and nothing was received"),
             (0x4, lambda it: it.send(1), "that is no id of a thread: ThreadId.of(1, 1)"),

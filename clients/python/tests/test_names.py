@@ -58,6 +58,31 @@ class Names(unittest.TestCase):
         self.assertEqual(names.Names(thread, ThreadId.of(255, 66)).register("me"), thread.id)
         self.assertEqual(said(server)[1][5:13].hex(), "000000ff00000042")
 
+    def test_a_server_that_is_chosen_is_asked_alone(self):
+        """By each way to a name: register, a call, a send, who serves, another `Names`; it is not looked for where it has ended."""
+        chosen = ThreadId.of(255, 66)
+        thread, server = scripted(answered(thread=2 << 32 | 1) + answered(thread=ECHO) + outcome(0, ECHO) + NO_RECEIVER * 4)
+        self.open += [thread, server]
+        names.Names(thread, chosen).register("me")
+        thread.call("echo")
+        thread.kept.found.clear()
+        for does in (lambda: thread.call("echo"), lambda: thread.send("echo"), lambda: thread.run(thread._keeper.keep()), names.Names(thread).list):
+            with self.assertRaises(names.NoNames) as caught:
+                does()
+            self.assertEqual(str(caught.exception), "the name server 255.66, which was chosen, is not there: start l4x DIR names, and choose the id that it prints")
+            self.assertEqual(caught.exception.server, chosen)
+        asked = [int.from_bytes(frame[5:13], "big") for frame in said(server)[1:]]
+        self.assertEqual(asked, [chosen, chosen, ECHO, *[chosen] * 4])
+
+    def test_a_choice_that_is_taken_back(self):
+        thread, server = scripted(NO_RECEIVER + TIMEOUT + answered())
+        self.open += [thread, server]
+        asked = names.Names(thread, ThreadId.of(255, 66))
+        self.assertEqual(asked.server, ThreadId.of(255, 66))
+        with self.assertRaises(names.NoNames):
+            asked.lookup("echo")
+        self.assertEqual(names.Names(thread, l4ipc.NILTHREAD).lookup("echo"), None)
+
     def test_each_error(self):
         for number in range(1, 7):
             asked, _ = self.asked(TIMEOUT + answered(number, ECHO))
@@ -97,13 +122,13 @@ class Names(unittest.TestCase):
             asked.wait_for("echo", 0)
         self.assertIsInstance(caught.exception, TimeoutError)
         self.assertIsInstance(caught.exception, l4ipc.L4Error)
-        self.assertEqual(str(caught.exception), "nobody has registered echo; waited for echo for 0 seconds")
+        self.assertEqual(str(caught.exception), "nobody has registered 'echo'; waited for 'echo' for 0 seconds")
 
     def test_one_second_is_one(self):
         asked, _ = self.asked(TIMEOUT + 20 * answered())
         with unittest.mock.patch("l4ipc.names.pauses_until", lambda *_: iter(())), self.assertRaises(l4ipc.NameTimeout) as caught:
             asked.wait_for("echo", 1)
-        self.assertEqual(str(caught.exception), "nobody has registered echo; waited for echo for 1 second")
+        self.assertEqual(str(caught.exception), "nobody has registered 'echo'; waited for 'echo' for 1 second")
 
     def test_a_name_server_that_does_not_answer(self):
         unsent = failed(0x2)
@@ -111,7 +136,7 @@ class Names(unittest.TestCase):
             asked, server = self.asked(TIMEOUT + 1000 * unsent)
             with self.subTest(wait), self.assertRaises(l4ipc.NameTimeout) as caught:
                 getattr(asked, wait)("echo", 1)
-            self.assertEqual(str(caught.exception), "the name server 255.1 does not answer; waited for echo for 1 second")
+            self.assertEqual(str(caught.exception), "the name server 255.1 does not answer; waited for 'echo' for 1 second")
             tried = said(server)[2:]
             self.assertGreater(len(tried), 1)
             for frame in tried:
@@ -130,7 +155,7 @@ class Names(unittest.TestCase):
             self.open += [thread, server]
             with self.subTest(waits), self.assertRaises(l4ipc.Unanswered) as caught:
                 thread.call("echo", wait_for=waits)
-            self.assertIn(f"to 255.1: timeout (error 0x2): the name server did not answer who has the name echo{said_so}; nothing was delivered",
+            self.assertIn(f"to 255.1: timeout (error 0x2): the name server did not answer who has the name 'echo'{said_so}; nothing was delivered",
                           str(caught.exception))
             self.assertIsInstance(caught.exception, l4ipc.Timeout)
             self.assertEqual((caught.exception.name, str(caught.exception.partner), caught.exception.delivered), ("echo", "255.1", False))
@@ -158,7 +183,7 @@ class Names(unittest.TestCase):
         self.open += [thread, server]
         with self.assertRaises(l4ipc.Unregistered) as caught:
             thread.call("echo", wait_for=0.02)
-        self.assertIn("nobody has registered echo, after waiting for 0.02 seconds", str(caught.exception))
+        self.assertIn("nobody has registered 'echo', after waiting for 0.02 seconds", str(caught.exception))
         self.assertTrue(caught.exception.__suppress_context__)
 
 

@@ -134,7 +134,7 @@ class Reconnect(unittest.TestCase):
             # the first answer belongs to the connection that has ended
             partners = [int.from_bytes(frame[5:13], "big") for it in there.kept for frame in said(it)[1:] if frame[4] == 2]
             self.assertEqual(partners, [0, 0, FIRST])
-            self.assertEqual(told, [(l4ipc.Closed, None), (l4ipc.Closed, None)])
+            self.assertEqual(told, [(l4ipc.Closed, None)])  # its own close is no trouble
 
 
 def found(thread, server=IN_255):
@@ -307,7 +307,7 @@ class ByName(unittest.TestCase):
             for wait_for in (0, 0.05):
                 with self.assertRaises(l4ipc.NoPartner) as caught:
                     thread.send("echo", wait_for=wait_for)
-                self.assertIn("nobody has registered echo", str(caught.exception))
+                self.assertIn("nobody has registered 'echo'", str(caught.exception))
             thread.close()
 
     def test_no_name_server(self):

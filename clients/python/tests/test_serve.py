@@ -1,5 +1,6 @@
 """The loop of a server."""
 
+import threading
 import unittest
 
 import l4ipc
@@ -71,7 +72,13 @@ class Serve(unittest.TestCase):
 
     def test_refusals_that_pass(self):
         told, frames = served(REFUSED[:-1] + b"\5" + REFUSED[:-1] + b"\4" + WORDS, lambda request: Message())
-        self.assertEqual([error for error, _ in told], [l4ipc.Refused, l4ipc.Refused, l4ipc.Closed])
+        self.assertEqual([error for error, _ in told], [l4ipc.Refused, l4ipc.Closed])
+
+    def test_an_answer_that_is_refused_is_sent_again(self):
+        for number, sent in ((b"\5", [(1 << 32 | 1, 4, 15)] * 3), (b"\4", [(1 << 32 | 1, 4, 15)] + [(1 << 32 | 1, FUNCTION_FAILED, None)] * 2)):
+            told, frames = served(WORDS + 2 * (REFUSED[:-1] + number) + WORDS, lambda request: Message(request.label + 1, [sum(request.words)]))
+            self.assertEqual(told, [(l4ipc.Refused, None), (l4ipc.Closed, None)])
+            self.assertEqual([message_of(frame) for frame in frames], [(0, 0, None), *sent, (1 << 32 | 1, 4, 15)])
 
     def test_what_ends_it(self):
         with self.assertRaises(l4ipc.Refused):
@@ -80,6 +87,27 @@ class Serve(unittest.TestCase):
             served(STRING, lambda request: Message())
         with self.assertRaises(SystemExit):
             served(WORDS, lambda request: exit())
+
+    def test_its_own_close_is_no_trouble(self):
+        """Neither where the function closes the thread, nor where another thread of the process does while it waits: a call that is open says who did."""
+        thread, server = scripted(WORDS)
+        told = []
+        thread.serve(lambda request: thread.close(), tell=lambda error, request: told.append(error))
+        server.close()
+        thread, server = scripted(WORDS, ends=False)
+        serves = threading.Thread(target=thread.serve, args=(lambda request: None,), kwargs={"tell": lambda error, request: told.append(error)})
+        serves.start()
+        thread.close()
+        server.close()
+        serves.join(5)
+        self.assertEqual((told, serves.is_alive()), ([], False))
+        thread, server = scripted(b"", ends=False)
+        closes = threading.Timer(0.05, lambda: (thread.close(), server.close()))
+        closes.start()
+        with self.assertRaises(l4ipc.Closed) as caught:
+            thread.wait()
+        closes.join()
+        self.assertIn("this process closed it", str(caught.exception))
 
     def test_what_the_logger_says(self):
         logged = logged_by(self, failed(0x9) + WORDS + failed(0x4), lambda request: Message())
@@ -108,7 +136,7 @@ class Serve(unittest.TestCase):
         self.assertIn("the message of 1.1 failed the server's function\nTraceback", failure)
         self.assertIn("thread.call(ThreadId.of(999, 1))", failure)
         self.assertIn("l4ipc.errors.NoPartner: 2.1: send phase to 999.1: non-existing partner", failure)
-        self.assertIn("1.1 was not answered: <Thread 2.1>: refused K5", refused)
+        self.assertIn("l4ipc: <Thread 2.1>: refused K5", refused)
         self.assertIn("1.1 was not answered: 2.1: send phase to 1.1", unsent)
 
     def test_a_coroutine_function(self):

@@ -79,13 +79,13 @@ class Waits(unittest.TestCase):
         rows = [
             (8 * failed(0x4) + WORDS, lambda it: it.call(FIRST, wait_for=None), "waiting for 1.1: no such thread: start its program", "1.1 was there"),
             (3 * no_server + TIMEOUT + answered(ThreadId.of(2, 1)), lambda it: names.Names(it).wait_to_register("echo"),
-             "waiting for a name server that registers echo: no name server is there (a live thread of number 255, of a version up to 63): start l4x DIR names",
+             "waiting for a name server that registers 'echo': no name server is there (a live thread of number 255, of a version up to 63): start l4x DIR names",
              "echo is registered: it is 2.1"),
-            (3 * no_server + later, lambda it: names.Names(it).wait_for("echo"), "waiting for the name echo: no name server is there", "echo is 1.1"),
-            (TIMEOUT + 8 * answered() + answered(FIRST), lambda it: names.Names(it).wait_for("echo"), "waiting for the name echo: nobody has registered echo",
+            (3 * no_server + later, lambda it: names.Names(it).wait_for("echo"), "waiting for the name 'echo': no name server is there", "echo is 1.1"),
+            (TIMEOUT + 8 * answered() + answered(FIRST), lambda it: names.Names(it).wait_for("echo"), "waiting for the name 'echo': nobody has registered 'echo'",
              "echo is 1.1"),
             (3 * no_server + later + WORDS, lambda it: it.call("echo", wait_for=None), "start l4x DIR names", "echo is 1.1"),
-            (TIMEOUT + 8 * answered() + answered(FIRST) + WORDS, lambda it: it.call("echo", wait_for=None), "nobody has registered echo", "echo is 1.1"),
+            (TIMEOUT + 8 * answered() + answered(FIRST) + WORDS, lambda it: it.call("echo", wait_for=None), "nobody has registered 'echo'", "echo is 1.1"),
         ]
         for answers, does, *texts in rows:
             thread, server = scripted(answers)
@@ -95,7 +95,7 @@ class Waits(unittest.TestCase):
     def test_a_name_server_that_does_not_answer(self):
         thread, server = scripted(TIMEOUT + 6 * failed(0x2) + answered(FIRST))
         with thread, server:
-            self.told(lambda: names.Names(thread).wait_for("echo"), "waiting for the name echo: the name server 255.1 does not answer", "echo is 1.1")
+            self.told(lambda: names.Names(thread).wait_for("echo"), "waiting for the name 'echo': the name server 255.1 does not answer", "echo is 1.1")
 
     def test_a_name_that_is_registered_again(self):
         own = answered(ThreadId.of(2, 1))

@@ -19,7 +19,7 @@ from .calls import NO_MESSAGE
 from .errors import RECEIVE, BadFrame, Closed, IpcError, L4Error, Timeout
 from .exchanging import Exchanged, exchange_frame, exchanged
 from .message import Buffer, Message, Received
-from .names import Book, live, live_version
+from .names import book_of, live, live_version
 from .serving import Telling
 from .steps import Answer, Ipc, Pause, Ready, Step, Steps
 from .thread import LEAST_WAIT, Partner
@@ -117,6 +117,7 @@ class Thread(Caller):
         """The thread is closed from now on. The connection, where that is still to be ended: who asked first does so."""
         is_there = not self._is_closed and not self._is_lost
         self._is_closed = True
+        self.is_ended_here = self.is_ended_here or is_there
         return self._connection if is_there else None
 
     def _close(self) -> None:
@@ -339,7 +340,7 @@ class Thread(Caller):
             answer = await self._exchange(connection, frame, call)
         except (OSError, EOFError) as end:
             self._close()
-            raise Closed(f"{self!r}: the connection has ended, with l4d or by it") from (None if isinstance(end, EOFError) else end)
+            raise self._end_of_call() from (None if isinstance(end, EOFError) or self.is_ended_here else end)
         finally:
             self._over = None
             over.set()
@@ -444,7 +445,7 @@ class Names:
 
     def __init__(self, thread: Thread, server: Optional[int] = None, timeout: Optional[float] = None) -> None:
         self._thread = thread
-        self._book = Book(thread, server, timeout)
+        self._book = book_of(thread, server, timeout)
 
     async def register(self, name: str, originator: Optional[int] = None) -> ThreadId:
         """From now on the name is that of this thread; with an originator, of that thread of the own space."""

@@ -47,6 +47,8 @@ class Caller:
         self._is_lost = False
         self._is_of_parent = False
         self._closed_by = ""
+        self.is_ended_here = False
+        """Whether this process ended the connection, by close."""
         _all.add(self)
         # (no circle: who drops a thread ends its connection at once)
         own = weakref.proxy(self)
@@ -68,6 +70,11 @@ class Caller:
         """What a call of a thread raises that is closed, or not connected."""
         return Closed(f"{self!r}: no call is made{self._closed_by and f': {self._closed_by}'}")
 
+    def _end_of_call(self) -> Closed:
+        """What a call raises that was open when the connection ended."""
+        cause = "this process closed it" if self.is_ended_here else "the connection has ended, with l4d or by it"
+        return Closed(f"{self!r}: {cause}")
+
     def _partner_is_lost(self) -> Closed:
         """What a call raises whose partner was known by the connection that has ended: the id is that of any thread of another l4d."""
         error = Closed(f"{self!r}: the connection has ended over which its partner was known; nothing was sent")
@@ -76,6 +83,8 @@ class Caller:
 
     def _connected_as(self, own: ThreadId) -> None:
         """A connection is there, whose thread has this id."""
+        if self.lives:  # who was chosen over the last one is any thread over this one
+            self.kept.chosen = None
         self.id = own
         self.lives += 1
         self._taken = b""

@@ -10,7 +10,7 @@ from dataclasses import dataclass
 from typing import Callable, Optional, Tuple
 
 from . import arguments, frames, protocol
-from .errors import BadFrame, Closed, L4Error, Refused, fault, seconds
+from .errors import BadFrame, Closed, L4Error, Refused, fault, is_foreign, seconds
 from .waiting import Wait, end_of, left_until, pauses
 from .words import ThreadId
 
@@ -140,6 +140,8 @@ def connect(place: Place, goes_on: Callable[[], None] = lambda: None) -> Tuple[s
             wait.is_over(connected(own, place))
             return connection, own
         except (OSError, L4Error) as error:
+            if is_foreign(error):
+                raise
             pause = next(waiting, None) if passes(error) else None
             if pause is None:
                 raise explained(error, place) from None

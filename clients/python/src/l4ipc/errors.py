@@ -114,6 +114,8 @@ class NoPartner(IpcError):
             return ""
         if self.partner == self.thread:
             return ", since that is the thread itself"
+        if self.delivered and self.partner == self._of.to:
+            return ", which has ended, or the thread to which it passed the message on"
         if not self.partner.number or not self.partner.version:
             return f", since that is no id of a thread: ThreadId.of({int(self.partner) & 0x3FF}, 1) makes one of a number"
         return ""
@@ -123,7 +125,7 @@ class NoPartner(IpcError):
         if self.waited is None or not self.partner.number or not 0 < self.partner.version < 63:
             return ""
         later = ThreadId.of(self.partner.number, self.partner.version + 1)
-        return f"; a server that was started again is {later} or later: its name, or names.live_thread, finds it"
+        return f"; a server that was started again is {later} or later: its name finds it, or up to version 63 names.live_thread"
 
 
 class Cancelled(IpcError):
@@ -205,6 +207,14 @@ class Fault(L4Error):
     def __str__(self) -> str:
         meaning = self.MEANINGS[self.letter].get(self.number, "unknown")
         return f"fault {self.letter}{self.number}, and the thread is ended: {meaning}"
+
+
+def is_foreign(error: BaseException) -> bool:
+    """Whether other code than this package's raised an exception, as the handler of a signal does that comes while a call is open."""
+    at = error.__traceback__
+    while at is not None and at.tb_next is not None:
+        at = at.tb_next
+    return at is not None and at.tb_frame.f_globals.get("__name__", "").partition(".")[0] not in (__name__.partition(".")[0], "socket")
 
 
 class Closed(L4Error):

@@ -71,12 +71,18 @@ class NameFault(L4Error):
 
 
 class NoNames(L4Error):
-    """No name server was found. ``waited`` is how many seconds it was waited for, where that was asked for."""
+    """No name server was found. ``waited`` is how many seconds it was waited for, where that was asked for; ``server`` which one was chosen, if any."""
 
     waited: Optional[float] = None
 
+    def __init__(self, server: Optional[ThreadId] = None) -> None:
+        self.server = server
+        super().__init__(*(() if server is None else (server,)))
+
     def __str__(self) -> str:
         waited = f", after waiting for {in_words(self.waited)}" if self.waited else ""
+        if self.server is not None:
+            return f"the name server {self.server}, which was chosen, is not there{waited}: start l4x DIR names, and choose the id that it prints"
         return f"no name server is there (a live thread of number {NUMBER}, of a version up to {MAX_VERSION}){waited}: start l4x DIR names"
 
 
@@ -95,7 +101,7 @@ class Unregistered(NoPartner):
         self.name = name
 
     def _details(self) -> str:
-        return f": nobody has registered {self.name}"
+        return f": nobody has registered {arguments.shown(self.name)}"
 
 
 class Unanswered(Timeout):
@@ -109,19 +115,25 @@ class Unanswered(Timeout):
         self.name = name
 
     def _details(self) -> str:
-        return f": the name server did not answer who has the name {self.name}"
+        return f": the name server did not answer who has the name {arguments.shown(self.name)}"
 
 
 class Kept:
-    """The names that a thread has registered for itself, to be registered again, the threads that it has found by their names, and the name servers
-    that owe it the answer to a request for which it waits no longer."""
+    """The names that a thread has registered for itself, to be registered again, the threads that it has found by their names, the name server that was
+    chosen for it, and those that owe it the answer to a request for which it waits no longer."""
 
     def __init__(self) -> None:
         self.names: Dict[str, None] = {}
         self.found: Dict[str, ThreadId] = {}
         self.owing: Set[ThreadId] = set()
+        self.chosen: Optional[ThreadId] = None
         self.again_at = 0.0
         self.is_busy = False
+
+    def choose(self, server: ThreadId) -> None:
+        """This name server is asked from now on, and no other; nilthread is none."""
+        self.chosen = server or None
+        self.found.clear()
 
     def registered(self, name: str) -> None:
         """The name is this thread's."""
@@ -142,20 +154,20 @@ class Kept:
 class Book:
     """What is known of the name server, and what it is asked for, as steps."""
 
-    def __init__(self, thread: "Caller", server: Optional[int] = None, timeout: Optional[float] = None) -> None:
+    def __init__(self, thread: "Caller", timeout: Optional[float] = None) -> None:
         if not hasattr(thread, "lives"):
             raise arguments.wanted("thread", "a Thread is", thread)
         self._thread = thread
         self._life = thread.lives or 1  # (a thread of coroutines may not be connected yet)
         self._timeout = arguments.seconds_or_none("timeout", timeout)
-        self._server = None if server is None else ThreadId(arguments.thread_id("server", server))
+        self._found: Optional[ThreadId] = None
 
     @property
     def server(self) -> Optional[ThreadId]:
-        """The name server, where it was found over the connection that is there: over another one its id is that of any thread."""
+        """The name server that was chosen, or that was found over the connection that is there: over another one its id is that of any thread."""
         if self._life != self._thread.lives:
-            self._life, self._server = self._thread.lives, None
-        return self._server
+            self._life, self._found = self._thread.lives, None
+        return self._thread.kept.chosen or self._found
 
     def _times(self, end: Optional[float], is_wait: bool) -> int:
         """The timeouts of a request. Of a wait that has an end each phase has half of what is left, so that both together keep to it.
@@ -173,7 +185,7 @@ class Book:
     def ask(
         self, label: int, name: bytes, originator: Optional[int] = None, end: Optional[float] = None, is_wait: bool = False
     ) -> Steps[Received]:
-        """A request, of a wait until this moment. The name server is looked for where it is not known, and again where it has ended.
+        """A request, of a wait until this moment. The name server is looked for where it is not known, and again where it has ended, unless it was chosen.
 
         It is looked for from the first version on where the connection had ended: then the request is sent over the next one.
         """
@@ -184,11 +196,13 @@ class Book:
             server = self.server or NILTHREAD
             try:
                 if not server:
-                    server = self._server = yield from self._live_server(first)
+                    server = self._found = yield from self._live_server(first)
                 answer: Received = yield Ipc(server, server, message, self._times(end, is_wait), buffers, True)
                 break
             except NoPartner:
-                first, self._server = server.version + 1, None
+                if server == self._thread.kept.chosen:
+                    raise NoNames(server) from None
+                first, self._found = server.version + 1, None
             except Closed as error:
                 if not error.partner_is_lost:
                     raise
@@ -253,7 +267,7 @@ class Book:
         while True:
             try:
                 found = yield from self.lookup(name, end, True)
-                missing = f"nobody has registered {name}"
+                missing = f"nobody has registered {arguments.shown(name)}"
             except NoNames as error:
                 found, missing = None, str(error)
             except Timeout as error:
@@ -264,7 +278,7 @@ class Book:
             pause = next(waiting, None)
             if pause is None:
                 raise _waited(missing, name, seconds) from None
-            wait.goes_on(f"the name {name}", missing)
+            wait.goes_on(f"the name {arguments.shown(name)}", missing)
             yield Pause(pause)
 
     def wait_to_register(self, name: str, seconds: Optional[float]) -> Steps[ThreadId]:
@@ -288,7 +302,7 @@ class Book:
                 pause = next(waiting, None)
                 if pause is None:
                     raise _waited(why, name, seconds) from None
-            wait.goes_on(f"a name server that registers {name}", why)
+            wait.goes_on(f"a name server that registers {arguments.shown(name)}", why)
             yield Pause(pause)
 
     def keep(self) -> Steps[None]:
@@ -342,7 +356,7 @@ class Book:
                 if pause is None:
                     missing.waited = wait_for or None
                     raise missing from None
-                wait.goes_on(f"the name {name}", missing)
+                wait.goes_on(f"the name {arguments.shown(name)}", missing)
             yield Pause(pause)
 
     def _partner(self, name: str, end: Optional[float], is_wait: bool) -> Steps[ThreadId]:
@@ -397,13 +411,16 @@ def live_thread(thread: "Thread", number: int, first: int = 1) -> Optional[Threa
 class Names:
     """The name server, as a thread asks it.
 
-    It is looked for at the first request, and again where it has ended, from the next version on. ``server`` is its id where
-    it is past version 63. ``timeout`` is how long each phase of a request may take, in seconds; a wait asks again after it.
+    It is looked for at the first request, and again where it has ended, from the next version on. ``timeout`` is how long each phase of a
+    request may take, in seconds; a wait asks again after it.
+
+    ``server``, the id of one that is past version 63, chooses it for the thread, until that connects again: whatever asks for a name asks
+    that one alone, `serve` and a call of a name, too. `NILTHREAD` chooses none.
     """
 
     def __init__(self, thread: "Thread", server: Optional[int] = None, timeout: Optional[float] = None) -> None:
         self._thread = thread
-        self._book = Book(thread, server, timeout)
+        self._book = book_of(thread, server, timeout)
 
     @property
     def server(self) -> Optional[ThreadId]:
@@ -439,6 +456,14 @@ class Names:
         return self._thread.run(self._book.wait_to_register(name, seconds))
 
 
+def book_of(thread: "Caller", server: Optional[int], timeout: Optional[float]) -> Book:
+    """What `Names` asks, by its arguments."""
+    book = Book(thread, timeout)
+    if server is not None:
+        thread.kept.choose(ThreadId(arguments.thread_id("server", server)))
+    return book
+
+
 def register(thread: "Thread", name: str) -> ThreadId:
     """Registers a name as this thread."""
     return Names(thread).register(name)
@@ -456,7 +481,7 @@ def _until_there(seconds: Optional[float]) -> Tuple[Optional[float], Iterator[fl
 
 def _waited(missing: str, name: str, seconds: Optional[float]) -> NameTimeout:
     """The end of a wait for a name, and what was missing."""
-    return NameTimeout(f"{missing}; waited for {name}" + ("" if seconds is None else f" for {in_words(seconds)}"))
+    return NameTimeout(f"{missing}; waited for {arguments.shown(name)}" + ("" if seconds is None else f" for {in_words(seconds)}"))
 
 
 def name_bytes(name: str, argument: str = "name") -> bytes:

@@ -117,7 +117,7 @@ REFUSALS: Dict[int, str] = {
     2: "a thread of that number is live",
     3: "the versions of that thread number are used up",
     4: "the server has no memory",
-    5: "the history has no room for what the command may bring about",
+    5: "the history of the server is full: of open calls, or of what its trace has not written yet",
     6: "no such thread is live",
     7: "the thread has an open call, or an outcome that it has not yet taken",
     8: "the number of the call would pass the limit",

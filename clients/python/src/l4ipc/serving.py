@@ -70,7 +70,7 @@ class Loop:
         self.thread, self.function, self.buffers, self.tell = thread, function, buffers, tell
         self.request: Optional[Received] = None
         self.answer: Optional[Message] = None
-        self.names_failed = False
+        self.names_failed = self.is_refused = False
         self.life = thread.lives
 
     def run(self) -> Steps[None]:
@@ -79,7 +79,8 @@ class Loop:
             try:
                 yield from self.turns()
             except Closed as end:
-                self.tell(end, None)
+                if not self.thread.is_ended_here:
+                    self.tell(end, None)
                 if not self.thread.reconnects or self.thread.is_closed:
                     return
                 self.request = None
@@ -102,6 +103,7 @@ class Loop:
                 if pause:
                     yield Pause(pause)
                 continue
+            self.is_refused = False
             if kept.owing and request.sender in kept.owing:
                 # a name server's answer, for which its call did not wait: who answered that would be answered without an end
                 kept.owing.remove(request.sender)
@@ -125,12 +127,19 @@ class Loop:
             raise error
         if not isinstance(error, Refused) and not isinstance(self.answer, Message):
             error = arguments.wanted("function", "a Message or None as its answer is", self.answer)
-        self.tell(error, answered)
         if not isinstance(error, Refused):  # what the function returned cannot be sent
+            self.tell(error, answered)
             self.request, self.answer = answered, _FAILED
             return 0
         if error.number not in (NO_MEMORY, NO_ROOM):
+            self.tell(error, answered)
             raise error
+        if not self.is_refused:
+            self.tell(error, None)
+        # nothing of the call was done, so it is made again; for an answer that finds no memory a short one
+        self.is_refused, self.request = True, answered
+        if error.number == NO_MEMORY:
+            self.answer = _FAILED
         return 0.1
 
     def next_call(self, answered: Optional[Received]) -> steps.Ipc:

@@ -17,7 +17,7 @@ if TYPE_CHECKING:
 
 _Result = TypeVar("_Result")
 
-STARTED_AGAIN = "a server that was started again has a later version: its name, or names.live_thread, finds it"
+STARTED_AGAIN = "a server that was started again has a later version: its name finds it, or up to version 63 names.live_thread"
 """What helps who waits for a thread that is not there."""
 
 

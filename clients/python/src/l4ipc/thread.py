@@ -10,7 +10,7 @@ from typing import NoReturn, Optional, Sequence, Type, TypeVar, Union
 from . import arguments, calls, connecting, frames, serving
 from .caller import ANSWERED, CALLED, SENT_TO, Caller
 from .calls import NO_MESSAGE
-from .errors import RECEIVE, BadFrame, Closed, L4Error, Timeout
+from .errors import RECEIVE, BadFrame, Closed, L4Error, Timeout, is_foreign
 from .exchanging import Exchanged, exchange_frame, exchanged
 from .message import NO_BUFFERS, Buffer, Message, Received
 from .names import is_name
@@ -102,6 +102,7 @@ class Thread(Caller):
         """
         is_there = not self._is_closed and not self._is_lost
         self._is_closed = True
+        self.is_ended_here = self.is_ended_here or is_there
         if self._begun is not None:  # nobody finishes it any more
             self._begun = None
             self._call.release()
@@ -379,6 +380,8 @@ class Thread(Caller):
             try:
                 self._connect_again(self._place.wait_for)
             except OSError as error:
+                if is_foreign(error):
+                    raise
                 raise Closed(f"{self!r}: {error}") from error
         if self.kept.is_due():
             try:
@@ -434,12 +437,12 @@ class Thread(Caller):
                 raise EOFError
             self._taken = data
             return self._hear()
-        except (OSError, EOFError) as end:
-            self._close()
-            raise Closed(f"{self!r}: the connection has ended, with l4d or by it") from (None if isinstance(end, EOFError) else end)
         except BaseException as error:
-            if not isinstance(error, Exception):
+            if not isinstance(error, Exception) or is_foreign(error):
                 self._lose_by("a call that was interrupted has closed it")
+            elif isinstance(error, (OSError, EOFError)):
+                self._close()
+                raise self._end_of_call() from (None if isinstance(error, EOFError) or self.is_ended_here else error)
             self._close()
             raise
         finally:

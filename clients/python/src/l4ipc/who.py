@@ -123,7 +123,7 @@ def _answer(path: str) -> str:
 def _meaning(answer: str) -> str:
     """What an answer means that tells no threads."""
     if not answer:
-        return "l4d closed the connection, as it does where 8 ask at one time: ask again"
+        return "l4d closed the connection, as where 8 ask at one time, where it lacks memory (its standard error says so), and where it ends: ask again"
     if answer.startswith("unknown:"):
         return "this l4d is older, and does not tell its threads"
     return f"l4d answered {_fitting(_printable(answer.rstrip()), MOST_SHOWN)}"

@@ -136,7 +136,7 @@ MEANINGS = {
     "K2": "a thread of that number is live",
     "K3": "the versions of that thread number are used up",
     "K4": "the server has no memory",
-    "K5": "the history has no room for what the command may bring about",
+    "K5": "the history of the server is full: of open calls, or of what its trace has not written yet",
     "K6": "no such thread is live",
     "K7": "the thread has an open call, or an outcome that it has not yet taken",
     "K8": "the number of the call would pass the limit",

@@ -56,7 +56,7 @@ TOLD = [
     ("crates/l4sh_explain/src/text.rt", "at most (N) substrings, of all buffers together", "substrings"),
     ("crates/ipc_host/src/obstacle.rt", "const MOST_BYTES: usize = (N);", "path_bytes"),
     ("crates/ipc_host/src/obstacle.rt", "a socket's path has at most (N) bytes", "path_bytes"),
-    ("crates/ipc_host/src/datagram.rt", "const MOST_PATH: usize = (N);", "path_bytes"),
+    ("crates/ipc_host/src/address.rt", "const MOST_PATH: usize = (N);", "path_bytes"),
     ("crates/l4sh_options/specs/Command.antt", 'max_entries_text = codes "(N)"', "entries"),
     ("crates/l4sh_options/specs/Command.antt", 'max_calls_text = codes "(N)"', "calls"),
     ("crates/l4sh_options/specs/Command.antt", 'max_chart_entry_text = codes "(N)"', "chart_entry"),

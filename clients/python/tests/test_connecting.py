@@ -331,6 +331,7 @@ class Texts(unittest.TestCase):
             (0x3, lambda it: it.wait(1), "2.1: receive phase from anythread: timeout (error 0x3); nothing was received"),
             (0x7, lambda it: it.reply_wait(FIRST, Message()), "cancelled by another thread (error 0x7); what was sent was delivered, and nothing was received"),
             (0x4, lambda it: it.send(1), "that is no id of a thread: ThreadId.of(1, 1)"),
+            (0x4, lambda it: it.send(ThreadId.of(5, 0)), "that is no id of a thread: ThreadId.of(5, 1)"),
             (0x4, lambda it: it.send(it.id), "that is the thread itself"),
             (0x18, lambda it: it.send(FIRST, strings), "string 3, of 9 bytes, did not fit the receiver's buffers; nothing was delivered"),
             (0x8, lambda it: it.send(FIRST, strings), "string 1, of 1 byte, did not fit"),

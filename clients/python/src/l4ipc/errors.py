@@ -117,7 +117,8 @@ class NoPartner(IpcError):
         if self.delivered and self.partner == self._of.to:
             return ", which has ended, or the thread to which it passed the message on"
         if not self.partner.number or not self.partner.version:
-            return f", since that is no id of a thread: ThreadId.of({int(self.partner) & 0x3FF}, 1) makes one of a number"
+            number = self.partner.number or int(self.partner) & 0x3FF
+            return f", since that is no id of a thread: ThreadId.of({number}, 1) makes one of a number"
         return ""
 
     def _advice(self) -> str:

@@ -251,7 +251,7 @@ fn picture_of(
     options: &ChartOptions<'_>,
     times: Times,
 ) -> Result<String, AllocError> {
-    if options.is_text {
+    if wants_text(options) {
         draw_text(alloc, scene, options.width as usize, times)
     } else if options.is_html || options.page > 0 {
         draw_html(alloc, scene, options.page as usize, times)
@@ -260,13 +260,18 @@ fn picture_of(
     }
 }
 
+// Whether it is drawn as text for a terminal: a width is that of lines of text.
+fn wants_text(options: &ChartOptions<'_>) -> bool {
+    options.is_text || options.width > 0
+}
+
 /// Which options exclude each other, in words; None where none do.
 pub fn options_reason(
     alloc: Global,
     options: &ChartOptions<'_>,
 ) -> Option<Result<String, AllocError>> {
-    if options.is_text && (options.is_html || options.page > 0) {
-        let reason = "--text goes with neither --html nor --page";
+    if wants_text(options) && (options.is_html || options.page > 0) {
+        let reason = "--text and --width go with neither --html nor --page";
         Some(String::from_str(alloc, reason))
     } else if options.from > options.to {
         Some(chart_reason(alloc, options, ChartFault::Reversed))

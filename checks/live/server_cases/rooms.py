@@ -222,7 +222,7 @@ def told_to_followers(folder):
     answers = set()
     for _ in range(10):
         answers.add(asked(folder, "trace follow"))
-        time.sleep(0.1)
+        time.sleep(0.2)
     return answers
 
 

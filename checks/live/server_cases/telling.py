@@ -135,7 +135,20 @@ def log():
                 continue
             has(err, f"l4d: listens on {server.path}\n", "l4d: refused K2 to a connection of space 1\n", "l4d: fault F1 to a connection of space 1\n",
                 " to 2.1 of space 1\n", "2 calls over", "2 faults", "1 refusals K2", " entries, ", " KiB")
+    return last_counters()
+
+
+def last_counters():
+    """The last line of the log, which tells of a trace that has all entries."""
+    for _ in range(5):
+        with tempfile.TemporaryDirectory() as folder, served("--connections", "2", "--log", "--trace", f"{folder}/trace") as server:
+            pair = Client(server.path, 1), Client(server.path, 2)
+            pair_works(pair)
+            for client in pair:
+                client.line.close()
+            status, out, err = server.end()
             last = err.strip().splitlines()[-1]
+            assert (status, out) == (0, "closed\n") and last.endswith(", trace 0 entries behind"), (status, out, err)
     return last
 
 

@@ -37,6 +37,12 @@ const WATCH_TURN: u64 = 100;
 /// How often counters are told, in seconds.
 const LOG_TURN: u64 = 60;
 
+/// How often the last counters look whether the trace has caught up, and how long they sleep before
+/// each further look, in milliseconds.
+const TRACE_TURNS: u64 = 100;
+
+const TRACE_TURN: u64 = 10;
+
 /// Serves all paths until each has had its connections and these have ended, or the service was
 /// stopped. It is told once all workers are there; an error where one could not be started, or it
 /// could not be told. The connections that were served come back, all of one log: each that the log
@@ -131,7 +137,7 @@ fn watch<C: Naming, T: Ledger, R: Wait + Clock + Eprint>(
     }
 }
 
-/// Tells counters once a minute, and at the end.
+/// Tells counters once a minute, and at the end, once the trace has caught up if it soon does.
 fn log_counters<C: Naming, T: Ledger, R: Wait + Clock + Eprint>(
     server: &Server<'_, C, T, SocketPort, R>,
     host: &Host,
@@ -140,10 +146,27 @@ fn log_counters<C: Naming, T: Ledger, R: Wait + Clock + Eprint>(
         let is_over = host
             .guests
             .wait_finished(server.rt, Duration::from_secs(LOG_TURN));
+        if is_over {
+            await_trace(server, host);
+        }
         host.lines.tell(server.rt, &counters_now(server, host));
         if is_over {
             return;
         }
+    }
+}
+
+/// Waits until no entry is left to be put in the trace, for a second at most.
+fn await_trace<C: Naming, T: Ledger, R: Wait + Clock>(
+    server: &Server<'_, C, T, SocketPort, R>,
+    host: &Host,
+) {
+    for _ in 0..TRACE_TURNS {
+        let entries = server.shared.entries(server.rt) as u64;
+        if host.trace.behind(entries) == Some(0) || !host.trace.goes_on(server.rt) {
+            return;
+        }
+        thread::sleep(server.rt, Duration::from_millis(TRACE_TURN));
     }
 }
 

@@ -2,6 +2,7 @@
 //! answered with a text.
 use crate::counters::{CounterLines, counters_now};
 use crate::lacking::{CameBy, tell_lack};
+use crate::serving::start_worker_on;
 use ipc_host::SocketPort;
 use ipc_lock::Naming;
 use ipc_tracing::{Door, Host, NO_MEMORY, Server, answer_with_part, began_text, follow, say};
@@ -68,7 +69,7 @@ pub(crate) fn start_answering<'s, E, C: Naming + Send, T: Ledger + Send, R>(
 where
     R: Threads + Wait + Clock + Eprint + Sync,
 {
-    start_worker(scope, move || answer_askers(server, host, door)).is_ok()
+    start_worker_on(scope, STACK, move || answer_askers(server, host, door)).is_ok()
 }
 
 /// Answers those who ask, until the service ends.
@@ -90,8 +91,9 @@ where
                 Ok(stream) => {
                     if let Some(stream) = admit(host, stream) {
                         let shared = stream.try_clone();
-                        let started = start_worker(
+                        let started = start_worker_on(
                             scope,
+                            STACK,
                             move || serve_asker(server, host, stream, Worker::Own),
                         );
                         if let Err(error) = started {
@@ -136,19 +138,6 @@ fn rest<C: Naming, T: Ledger, R: Wait + Clock>(
     host: &Host,
 ) {
     host.guests.wait_turn(server.rt);
-}
-
-/// Starts a worker that does this, with a stack that a state has room on.
-fn start_worker<'s, E, F: FnOnce() + Send + Drop + 's>(
-    scope: &Scope<'s, E>,
-    work: F,
-) -> io::Result<()>
-    requires { F.pre work }
-{
-    let builder = thread::Builder::new().stack_size(STACK);
-    let handle = builder.spawn_scoped(scope, work)?;
-    drop(handle);
-    Ok(())
 }
 
 /// One who asked has gone.

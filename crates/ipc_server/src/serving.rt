@@ -78,7 +78,18 @@ pub(crate) fn start_worker<'s, E, F: FnOnce() + Send + Drop + 's>(
 ) -> io::Result<()>
     requires { F.pre work }
 {
-    let builder = thread::Builder::new().stack_size(STACK);
+    start_worker_on(scope, STACK, work)
+}
+
+/// The same with so many bytes of stack.
+pub(crate) fn start_worker_on<'s, E, F: FnOnce() + Send + Drop + 's>(
+    scope: &Scope<'s, E>,
+    stack: usize,
+    work: F,
+) -> io::Result<()>
+    requires { F.pre work }
+{
+    let builder = thread::Builder::new().stack_size(stack);
     let handle = builder.spawn_scoped(scope, work)?;
     drop(handle);
     Ok(())

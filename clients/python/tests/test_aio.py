@@ -2,6 +2,7 @@
 
 import asyncio
 import contextlib
+import socket
 import threading
 import time
 import unittest
@@ -9,12 +10,15 @@ import unittest.mock
 
 import l4ipc
 from l4ipc import FUNCTION_FAILED, Message, Thread, ThreadId, aio, connecting
+from l4ipc.words import ANYLOCALTHREAD, ANYTHREAD, NILTHREAD
 
-from .scripted import DONE, EXREGR, FAULT, REFUSED, STRING, WELCOME, WORDS, failed, outcome, said
+from .scripted import DONE, EXREGR, FAULT, REFUSED, STRING, WELCOME, WORDS, failed, in_version_2, outcome, said
 from .test_connecting import Ender, Listener, patience
 
 FIRST = ThreadId.of(1, 1)
+OTHER = ThreadId.of(3, 1)
 IN_255 = 0xFF00000001
+NEWER = outcome(0x40001, FIRST, words=(9,))
 AGAIN = bytes.fromhex("00000009 81 0000000200000002")
 
 
@@ -45,6 +49,41 @@ def scripted(answers, does, *more, **named):
     with Listener([WELCOME + answers, *more]) as there:
         came = asyncio.run(main(there.listens()))
         return came, said(there.kept[0])
+
+
+def end_all(there):
+    """Ends all connections, so that a test which waits for what does not come fails."""
+    for connection in there.kept:
+        connection.shutdown(socket.SHUT_RDWR)
+
+
+def with_a_canceller(does, **named):
+    """What a coroutine of a thread that has a canceller answers, and the frames of the thread; ``server`` is its connection to the server."""
+
+    async def main(there):
+        async with aio.Thread(there.listens().folder, 1) as canceller, aio.Thread(there.folder, 2, canceller=canceller, **named) as thread:
+            ending = asyncio.get_running_loop().call_later(5, end_all, there)
+            came = await does(thread, there.kept[1])
+            ending.cancel()
+            return came
+
+    with Listener([WELCOME, WELCOME]) as there:
+        return asyncio.run(main(there)), said(there.kept[1])
+
+
+async def cancelled(call):
+    """How a task has ended that was cancelled."""
+    await asyncio.wait([call], timeout=5)
+    return call.cancelled()
+
+
+async def cancelled_as_it_comes(thread, server, makes=lambda it: it.wait(), message=WORDS):
+    """A call is cancelled after its message has come, and before it is looked at."""
+    call = asyncio.ensure_future(makes(thread))
+    await asyncio.sleep(0.01)
+    server.sendall(message)
+    call.cancel()
+    assert await cancelled(call) and not thread.is_closed
 
 
 class Aio(unittest.TestCase):
@@ -255,6 +294,127 @@ class Aio(unittest.TestCase):
 
         with Listener([WELCOME + EXREGR, WELCOME]) as there:
             self.assertEqual(asyncio.run(main(there)), (7, 8))
+
+    def test_what_is_held_is_no_answer_to_a_call_that_sends(self):
+        rows = [
+            lambda it: it.call(FIRST), lambda it: it.call(FIRST, wait_for=1), lambda it: it.ipc(FIRST, FIRST, Message(1)),
+            lambda it: it.ipc(OTHER, FIRST, Message(1)),
+        ]
+        for makes in rows:
+            async def does(thread, server):
+                await cancelled_as_it_comes(thread, server)
+                server.sendall(NEWER)
+                return (await makes(thread)).words, (await thread.receive(FIRST)).words
+
+            self.assertEqual(with_a_canceller(does)[0], ((9,), (7, 8)))
+
+    def test_what_is_held_comes_once_the_reply_is_sent(self):
+        async def does(thread, server):
+            await cancelled_as_it_comes(thread, server)
+            server.sendall(failed(0x4))
+            with self.assertRaises(l4ipc.NoPartner):
+                await thread.reply_wait(FIRST, Message(9))
+            reply = asyncio.ensure_future(thread.reply_wait(FIRST, Message(9)))
+            await asyncio.sleep(0.01)
+            with self.assertRaises(RuntimeError):  # and nobody else gets it meanwhile
+                await thread.wait()
+            self.assertFalse(reply.done())
+            server.sendall(DONE + NEWER)
+            return (await reply).words, (await thread.wait()).words
+
+        came, frames = with_a_canceller(does)
+        self.assertEqual(came, ((7, 8), (9,)))
+        self.assertEqual([int.from_bytes(frame[13:21], "big") for frame in frames[1:-1]], [ANYTHREAD, NILTHREAD, NILTHREAD, ANYTHREAD])
+
+    def test_which_messages_are_held(self):
+        open_calls = [
+            lambda it: it.wait(), lambda it: it.receive(FIRST), lambda it: it.reply_wait(FIRST), lambda it: it.ipc(NILTHREAD, FIRST),
+            lambda it: it.ipc(OTHER, FIRST), lambda it: it.serve(lambda _: None),
+        ]
+        for makes, words in [(it, (7, 8)) for it in open_calls] + [(lambda it: it.call(FIRST), (9,))]:
+            async def does(thread, server):
+                await cancelled_as_it_comes(thread, server, makes)
+                server.sendall(NEWER)
+                return (await thread.wait()).words
+
+            self.assertEqual(with_a_canceller(does)[0], words)
+
+    def test_who_gets_what_is_held(self):
+        rows = [
+            (ANYTHREAD, FIRST, True), (ANYTHREAD, OTHER, False), (ANYTHREAD, ANYLOCALTHREAD, False), (ANYLOCALTHREAD, ANYLOCALTHREAD, True),
+            (ANYLOCALTHREAD, ANYTHREAD, True), (FIRST, ANYTHREAD, True), (FIRST, FIRST, True),
+        ]
+        for came_for, asked_for, gets in rows:
+            async def does(thread, server):
+                await cancelled_as_it_comes(thread, server, lambda it: it.ipc(NILTHREAD, came_for))
+                server.sendall(NEWER)
+                return (await thread.ipc(NILTHREAD, asked_for)).words
+
+            with self.subTest(came_for=came_for, asked_for=asked_for):
+                self.assertEqual(with_a_canceller(does)[0], (7, 8) if gets else (9,))
+
+    def test_a_server_gets_what_is_held(self):
+        async def does(thread, server):
+            await cancelled_as_it_comes(thread, server)
+            server.sendall(FAULT)
+            requests = []
+            with self.assertRaises(l4ipc.Fault):
+                await thread.serve(lambda request: requests.append(request.words) or Message(4))
+            return requests
+
+        came, frames = with_a_canceller(does)
+        self.assertEqual((came, frames[2][5:13]), ([(7, 8)], FIRST.to_bytes(8, "big")))
+
+    def test_what_is_held_goes_into_the_buffers_that_it_fits(self):
+        async def gets(thread, server, buffers):
+            memory = bytearray(3)
+            await cancelled_as_it_comes(thread, server, lambda it: it.wait(buffers=[memory]), STRING)
+            memory[:] = b"xyz"
+            for too_small in ((), [2], [bytearray(2)], [[1, 1], 9]):
+                server.sendall(failed(0x3))
+                with self.assertRaises(l4ipc.Timeout):
+                    await thread.wait(0.01, too_small)
+            return await thread.wait(0.01, buffers)
+
+        memory, parts = bytearray(5), [bytearray(2), bytearray(2)]
+        for buffers, kind in (([3], bytes), ([memory, 7], memoryview), ([parts], bytes)):
+            came, frames = with_a_canceller(lambda thread, server: gets(thread, server, buffers))
+            self.assertEqual(([bytes(it) for it in came.strings], type(came.strings[0]), came.sender), ([b"abc"], kind, ThreadId.of(2, 1)))
+            self.assertEqual(len(frames), 7)  # HELLO, the call that was cancelled, four that it does not fit, and BYE
+        self.assertEqual((memory, parts), (b"abc\0\0", [b"ab", b"c\0"]))
+
+    def test_what_is_told_of_what_is_held(self):
+        async def does(thread, server):
+            await cancelled_as_it_comes(thread, server, message=in_version_2(WORDS, 5, 50))
+            server.sendall(in_version_2(DONE, 6, 60))
+            await thread.send(FIRST)
+            return thread.last_call, (await thread.wait()).call, thread.last_call, thread.last_moment
+
+        self.assertEqual(with_a_canceller(does, version=2)[0], (6, 5, 5, 50))
+
+    def test_a_further_cancel_while_the_canceller_ends_the_call(self):
+        async def main(there):
+            folder = there.listens().folder
+            async with aio.Thread(folder, 1) as canceller, aio.Thread(folder, 2, canceller=canceller) as thread, \
+                    aio.Thread(folder, 3, canceller=canceller) as other:
+                ending = asyncio.get_running_loop().call_later(5, end_all, there)
+                for _ in range(2):
+                    tasks = [asyncio.ensure_future(it.wait()) for it in (thread, other)]
+                    for _ in range(3):  # the canceller asks for the first, and the second waits for its turn
+                        await asyncio.sleep(0.01)
+                        for task in tasks:
+                            task.cancel()
+                    await asyncio.sleep(0.01)
+                    self.assertEqual([task.done() for task in tasks], [False, False])
+                    for task, connection in zip(tasks, there.kept[1:]):
+                        connection.sendall(failed(0x7))
+                        there.kept[0].sendall(EXREGR)
+                        self.assertTrue(await cancelled(task))
+                ending.cancel()
+                return [it.is_closed for it in (canceller, thread, other)]
+
+        with Listener([WELCOME, WELCOME, WELCOME]) as there:
+            self.assertEqual(asyncio.run(main(there)), [False, False, False])
 
     def test_a_thread_that_was_not_connected(self):
         async def main():

@@ -2,7 +2,9 @@
 
 A call that is cancelled closes its thread, since its answer would be taken for that of the next call. Where the thread has a ``canceller``,
 another thread of the same space, the call is ended by ExchangeRegisters instead, and the thread goes on. A message that has come all the
-same is not lost: the next `wait` that it fits answers it.
+same is held for the next call that it fits, by its sender and by the buffers. A call that sends gets it only if it then waits for anybody,
+once its own message was sent: who waits for a partner wants the answer of that one. For the same reason nothing is held that a call has
+brought which sends to a partner and waits for that one.
 """
 
 import asyncio
@@ -11,7 +13,7 @@ import socket
 from contextlib import contextmanager, suppress
 from dataclasses import replace
 from inspect import isawaitable
-from typing import Awaitable, Callable, Iterator, List, NoReturn, Optional, Sequence, Tuple, Type, TypeVar, Union
+from typing import Any, Awaitable, Callable, Coroutine, Iterator, List, NamedTuple, NoReturn, Optional, Sequence, Tuple, Type, TypeVar, Union
 
 from . import arguments, calls, connecting, frames, serving
 from .caller import ANSWERED, CALLED, Caller
@@ -32,6 +34,31 @@ Answering = Callable[[Received], Union[Optional[Message], Awaitable[Optional[Mes
 _Kind = TypeVar("_Kind", frames.Outcome, frames.Exchanged)
 _Result = TypeVar("_Result")
 _MOST_READ = 65_536
+
+
+class _Held(NamedTuple):
+    """A message that came for a call which was cancelled, and the FromSpecifier of that call. Its strings are copies: the memory that they
+    came into is that of the call."""
+
+    received: Received
+    from_specifier: int
+
+    def lengths(self) -> List[int]:
+        """The lengths of its strings."""
+        return [len(string) for string in self.received.strings]
+
+    def fits(self, call: calls.Call) -> bool:
+        """Whether a call may have it. One that sends to a partner and waits for one gets the answer to what it sent, and nothing older."""
+        is_open = call.from_specifier in (ANYTHREAD, ANYLOCALTHREAD)
+        if call.to and not is_open:
+            return False
+        # whether a sender is of the own space is known of what came for a call that asked for that
+        is_from = call.from_specifier in (ANYTHREAD, self.from_specifier, self.received.sender)
+        return is_from and call.strings.pieces_of(self.lengths()) is not None
+
+    def into(self, call: calls.Call) -> Received:
+        """What this call gets: the strings are in its buffers."""
+        return self.received._replace(strings=call.strings.fill(self.lengths(), b"".join(self.received.strings)))
 
 
 class Thread(Caller):
@@ -56,7 +83,7 @@ class Thread(Caller):
         self._canceller = self._checked(canceller)
         self._connection: Optional[socket.socket] = None
         self._over: Optional[asyncio.Event] = None  # of the call that is open
-        self._kept: List[Received] = []
+        self._held: List[_Held] = []
         self._queue: Optional[asyncio.Lock] = None
 
     def _checked(self, canceller: Optional["Thread"]) -> Optional["Thread"]:
@@ -247,19 +274,24 @@ class Thread(Caller):
         self, to: int, from_specifier: int, message: Message, times: int, buffers: Sequence[Buffer] = (), same_life: bool = False
     ) -> Optional[Received]:
         await self._ready(same_life)
-        kept = self._kept_from(from_specifier)
-        call = calls.call(self.id, to, NILTHREAD if kept else from_specifier, message, times, buffers)
-        if kept is None:
-            return self._result(call, await self._ask(call.frame, frames.Outcome, call))
-        if to != NILTHREAD:
-            self._result(call, await self._ask(call.frame, frames.Outcome, call))
-        self._kept.remove(kept)
-        return kept
+        call = calls.call(self.id, to, from_specifier, message, times, buffers)
+        held = next((it for it in self._held if it.fits(call)), None)
+        if held is None:
+            return await self._made(call)
+        self._one_call_at_a_time()
+        if to:  # its message first: where that is not sent, the other one stays held
+            await self._made(calls.call(self.id, to, NILTHREAD, message, times, ()))
+        self._held.remove(held)
+        self._tells(held.received.told)
+        return held.into(call)
 
-    def _kept_from(self, from_specifier: int) -> Optional[Received]:
-        """The first message that came for a call which was cancelled, and that fits this receive."""
-        anybody = from_specifier in (ANYTHREAD, ANYLOCALTHREAD)
-        return next((it for it in self._kept if anybody or it.sender == from_specifier), None)
+    async def _made(self, call: calls.Call) -> Optional[Received]:
+        """What the server answers to a call."""
+        return self._result(call, await self._ask(call.frame, frames.Outcome, call))
+
+    def _one_call_at_a_time(self) -> None:
+        if self._over is not None:
+            raise RuntimeError("another call of this thread is open")
 
     def _result(self, call: calls.Call, outcome: frames.Outcome) -> Optional[Received]:
         try:
@@ -304,7 +336,7 @@ class Thread(Caller):
     async def _connect_again(self, wait_for: Optional[float]) -> None:
         self._close()
         seconds = None if wait_for is None else max(wait_for, LEAST_WAIT)
-        self._kept.clear()
+        self._held.clear()
         await self._connect(replace(self._place, wait_for=seconds))
 
     async def _connect(self, place: connecting.Place) -> None:
@@ -330,8 +362,7 @@ class Thread(Caller):
 
     async def _ask(self, frame: bytes, kind: Type[_Kind], call: Optional[calls.Call] = None) -> _Kind:
         """Sends a frame, and answers the next one, which has to be of this kind."""
-        if self._over is not None:
-            raise RuntimeError("another call of this thread is open")
+        self._one_call_at_a_time()
         if self._is_closed or self._connection is None:
             raise self._no_call_is_made()
         connection, over = self._connection, asyncio.Event()
@@ -372,7 +403,7 @@ class Thread(Caller):
                 self._close_by_a_cancel()
             else:
                 with suppress(L4Error, RuntimeError, OSError, EOFError):  # a canceller that cannot end the call: the thread is closed
-                    await self._end_call(self._canceller, connection, call)
+                    await _to_its_end(self._end_call(self._canceller, connection, call))
             raise
         except BaseException:
             self._close()
@@ -392,7 +423,7 @@ class Thread(Caller):
         self._taken += more
 
     async def _end_call(self, canceller: "Thread", connection: socket.socket, call: calls.Call) -> None:
-        """Ends the open call by ExchangeRegisters, and keeps a message that has come all the same. It is tried until the call is over,
+        """Ends the open call by ExchangeRegisters, and holds a message that has come all the same. It is tried until the call is over,
         since the server may see ExchangeRegisters before it sees the call."""
         try:
             waiting = pauses(None, 0.05)
@@ -400,7 +431,7 @@ class Thread(Caller):
                 await canceller.cancel(self.id, lambda: self._what_is_there(connection) is None)
                 if self._what_is_there(connection) is None:
                     await asyncio.sleep(next(waiting))
-            self._keep(call, self._frame_until(self._arrived() or 0))
+            self._hold(call, self._frame_until(self._arrived() or 0))
         except BaseException:
             self._close_by_a_cancel()
             raise
@@ -418,8 +449,8 @@ class Thread(Caller):
             pass
         return self._arrived()
 
-    def _keep(self, call: calls.Call, answer: frames.Answer) -> None:
-        """Keeps the message of a call that has ended, unless it is the answer of a partner, whom nobody waits for any more."""
+    def _hold(self, call: calls.Call, answer: frames.Answer) -> None:
+        """Holds the message of a call that has ended, unless it is the answer of a partner: nobody else knows what it answers."""
         if not isinstance(answer, frames.Outcome):
             self._fail(connecting.error_of(answer, repr(self)))
         try:
@@ -427,7 +458,8 @@ class Thread(Caller):
         except IpcError:
             return
         if received is not None and call.to != call.from_specifier:
-            self._kept.append(received)
+            copies = tuple(bytes(string) for string in received.strings)
+            self._held.append(_Held(received._replace(strings=copies), call.from_specifier))
 
     async def cancel(self, dest: int, is_open: Callable[[], bool] = lambda: True) -> None:
         """Cancels both phases of a thread of the own space, if its call is still open once this thread is connected, where it connects again:
@@ -512,6 +544,16 @@ async def _in_a_task_of_its_own(answer: Awaitable[_Result]) -> _Result:
         task.cancel()
         await asyncio.gather(task, return_exceptions=True)
         raise _ServerCancelled from None
+    return task.result()
+
+
+async def _to_its_end(work: Coroutine[Any, Any, _Result]) -> _Result:
+    """What this answers. It is not broken off by a further cancel of the task that waits for it, which is one that was cancelled already: half
+    an exchange would cost both threads their connections."""
+    task = asyncio.ensure_future(work)
+    while not task.done():
+        with suppress(asyncio.CancelledError):
+            await asyncio.wait([task])
     return task.result()
 
 

@@ -10,7 +10,7 @@ from .connecting import Place
 from .errors import Closed
 from .message import Message, Received
 from .names import Book, Kept, is_name, name_bytes
-from .protocol import NOTHING_TOLD
+from .protocol import NOTHING_TOLD, Told
 from .steps import Ipc, Steps, until_there
 from .words import NILTHREAD, ThreadId
 
@@ -118,9 +118,13 @@ class Caller:
 
     def _read(self, call: calls.Call, outcome: frames.Outcome) -> Optional[Received]:
         """What a call has brought."""
-        self.last_told = outcome.told
-        self.last_call, self.last_moment = outcome.told.call, outcome.told.moment
+        self._tells(outcome.told)
         return call.result(outcome)
+
+    def _tells(self, told: Told) -> None:
+        """What was told of the last call."""
+        self.last_told = told
+        self.last_call, self.last_moment = told.call, told.moment
 
     def _arrived(self) -> Optional[int]:
         """Where the next frame ends, if it has arrived whole. What its first bytes say is looked at before more is waited for."""

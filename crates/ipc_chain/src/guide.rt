@@ -227,6 +227,9 @@ impl<'a> Guide<'a> {
             return Ok(Turn::Lost);
         };
         if is_free(slots, receipt.thread) {
+            if slots.now() < receipt.moment {
+                return Ok(Turn::Entry(Entry::Given(Input::At(receipt.moment))));
+            }
             self.go_on();
             self.waiters.push(Pair {
                 number: next,
@@ -326,11 +329,18 @@ struct Arrival<'a> {
 /// The message of the kept call at a place, or that brings the kept `turned` entry there.
 fn coming<'a>(slots: &Slots, wanted: Wanted<'a>, place: usize) -> Option<Arrival<'a>> {
     match wanted.kept.get(place)? {
-        Entry::Given(Input::Called(_, caller, call)) => Some(Arrival {
-            caller: *caller,
-            from: if_live(slots, *caller, shown(slots, *caller, call.call())),
-            call: Some(call.call()),
-        }),
+        Entry::Given(Input::Called(_, caller, call)) => {
+            let from = if is_shown_else(slots, wanted, place, call.call()) {
+                ThreadId::ANYTHREAD
+            } else {
+                shown(slots, *caller, call.call())
+            };
+            Some(Arrival {
+                caller: *caller,
+                from: if_live(slots, *caller, from),
+                call: Some(call.call()),
+            })
+        }
         Entry::Written(Output::Turned(number, _)) => {
             let caller = wanted.caller(*number)?;
             Some(Arrival {
@@ -350,6 +360,15 @@ fn if_live(slots: &Slots, caller: ThreadId, from: ThreadId) -> ThreadId {
     } else {
         ThreadId::ANYTHREAD
     }
+}
+
+/// Whether the originator of the kept call at a place opens or ends until then, so that another
+/// sender is shown than were it made now.
+fn is_shown_else(slots: &Slots, wanted: Wanted<'_>, place: usize, call: &Call) -> bool {
+    let originator = call.originator();
+    call.tag().propagates()
+        && wanted.place_opened(originator) > 0
+        && wanted.lives_at(place, originator) != slots.is_live(originator)
 }
 
 /// The sender that is shown of a call, were it made now.

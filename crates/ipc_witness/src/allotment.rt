@@ -283,6 +283,39 @@ impl Allotment {
         self.add(other, second, 1)
     }
 
+    /// A maker is not free any more from a gap to another one.
+    pub(crate) fn close(
+        &mut self,
+        alloc: Global,
+        maker: usize,
+        first: usize,
+        last: usize,
+    ) -> Result<(), AllocError> {
+        let mut windows = Vec::with_capacity(alloc, self.windows.len())?;
+        for window in self.windows.as_slice() {
+            if window.maker != maker || window.last < first || last < window.first {
+                windows.push(*window)?;
+                continue;
+            }
+            if window.first < first {
+                windows.push(Window {
+                    maker,
+                    first: window.first,
+                    last: first.saturating_sub(1),
+                })?;
+            }
+            if last < window.last {
+                windows.push(Window {
+                    maker,
+                    first: last.saturating_add(1),
+                    last: window.last,
+                })?;
+            }
+        }
+        self.windows = windows;
+        Ok(())
+    }
+
     /// How many calls nobody makes in a gap.
     fn room(&self, gap: usize) -> u64 {
         match self.rooms.get(gap) {

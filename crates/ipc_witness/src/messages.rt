@@ -19,10 +19,25 @@ pub(crate) struct Message {
     pub first: usize,
     /// The last one.
     pub last: usize,
+    /// The first moment at which it may be received behind its sending.
+    pub moment: u64,
+    /// The place before which its receiver is not free again: behind the sending, and the last kept
+    /// entry by which its bytes move.
+    pub over: usize,
     /// Whether its call waits for a receiver that comes later.
     pub is_patient: bool,
     /// Whether it answers a message that its receiver has sent.
     pub is_answer: bool,
+}
+
+impl Message {
+    /// The first place at which it is received where it waits for its receiver.
+    pub(crate) fn behind(&self) -> usize {
+        self.sending
+            .saturating_add(1)
+            .max(self.first)
+            .max(self.free)
+    }
 }
 
 /// A kept call that counts as over and receives the message of another one.
@@ -100,16 +115,19 @@ impl Messages {
         call: &Call,
         is_apart: bool,
     ) -> Result<(), AllocError> {
-        let mut message = message_of(wanted, place, number, caller, call);
+        let due = due_of(wanted, place, number, call);
+        let mut message = message_of(wanted, place, number, caller, call, due);
         if !is_apart {
-            if let Some(number) = self.receiver(wanted, place, number, caller, call) {
+            if let Some(number) = self.receiver(wanted, place, caller, call, due) {
                 self.pairs.push(Pair {
                     number,
                     sending: place,
                 })?;
                 return Ok(());
             }
-            if let Some(number) = self.asked(wanted, place, caller, call.to()) {
+            if due.is_soon
+                && let Some(number) = self.asked(wanted, place, caller, call.to())
+            {
                 self.pairs.push(Pair {
                     number,
                     sending: place,
@@ -154,6 +172,8 @@ impl Messages {
             until: place,
             first: 0,
             last: place,
+            moment: 0,
+            over: place,
             is_patient: false,
             is_answer: false,
         })?;
@@ -208,20 +228,23 @@ impl Messages {
         &self,
         wanted: Wanted<'_>,
         place: usize,
-        number: u64,
         caller: ThreadId,
         call: &Call,
+        due: Due,
     ) -> Option<u64> {
-        if let Some(number) = self.receiver_before(wanted, place, caller, call.to()) {
+        if due.is_soon
+            && let Some(number) = self.receiver_before(wanted, place, caller, call.to())
+        {
             return Some(number);
         }
         if !is_patient(call) {
             return None;
         }
-        let (_, last) = due(wanted, place, number, call.to());
-        for after in place.saturating_add(1)..last.saturating_add(1).min(wanted.kept.len()) {
+        let behind = due.last.saturating_add(1).min(wanted.kept.len());
+        for after in place.saturating_add(1)..behind {
             if let Some(number) = wanted.call_by(after, call.to()) {
-                if self.can_receive(wanted, after, caller)
+                if wanted.moment_at(after) >= due.moment
+                    && self.can_receive(wanted, after, caller)
                     && first_asking(wanted, place, call.to(), number) == place
                 {
                     return Some(number);
@@ -268,8 +291,14 @@ fn message_of(
     number: u64,
     caller: ThreadId,
     call: &Call,
+    due: Due,
 ) -> Message {
-    let (first, last) = due(wanted, place, number, call.to());
+    let Due {
+        first,
+        last,
+        moment,
+        ..
+    } = due;
     Message {
         thread: call.to(),
         sending: place,
@@ -277,6 +306,8 @@ fn message_of(
         until: place,
         first,
         last: stay(wanted, place.saturating_add(1).max(first), last, call.to()),
+        moment,
+        over: wanted.place_of_moves(number).unwrap_or(place),
         is_patient: is_patient(call),
         is_answer: false,
     }
@@ -313,15 +344,84 @@ fn first_asking(wanted: Wanted<'_>, place: usize, thread: ThreadId, number: u64)
     place
 }
 
+/// When a message is received, so that its call is in its receive phase where the kept entries say
+/// so.
+#[derive(Clone, Copy)]
+struct Due {
+    /// The first place and the last one.
+    first: usize,
+    last: usize,
+    /// The first moment.
+    moment: u64,
+    /// Whether that may be as it is sent.
+    is_soon: bool,
+}
+
+/// When the message of the kept call at a place is received: within its send phase, and not so
+/// early that its receive phase is over too soon.
+fn due_of(wanted: Wanted<'_>, place: usize, number: u64, call: &Call) -> Due {
+    let (first, last) = span(wanted, place, number, call.to());
+    let sent = wanted.moment_at(place);
+    let moment = earliest(wanted, place, number, call);
+    let is_soon = moment <= sent;
+    let behind = if is_soon {
+        0
+    } else {
+        wanted.place_of(moment).max(place.saturating_add(1))
+    };
+    Due {
+        first: first.max(behind),
+        last: last.min(wanted.place_until(latest(sent, call))),
+        moment,
+        is_soon,
+    }
+}
+
+/// The first moment at which a call may come to its receive phase, so that it waits as long as the
+/// kept entries say.
+fn earliest(wanted: Wanted<'_>, place: usize, number: u64, call: &Call) -> u64 {
+    let Some(end) = wanted.end_of_wait(place, number) else {
+        return 0;
+    };
+    match call.receive_period().micros() {
+        Some(micros) => wanted
+            .moment_at(end)
+            .saturating_add(1)
+            .saturating_sub(micros.max(1)),
+        None => 0,
+    }
+}
+
+/// The last moment of the send phase of a call that was sent then.
+fn latest(sent: u64, call: &Call) -> u64 {
+    match call.send_period().micros() {
+        Some(micros) => sent.saturating_add(micros.saturating_sub(1)),
+        None => u64::MAX,
+    }
+}
+
 /// Between which places a message is received, so that its call is in its receive phase where the
 /// next kept entry says so: before that, and as what brings it, unless a kept call does.
-fn due(wanted: Wanted<'_>, sending: usize, number: u64, receiver: ThreadId) -> (usize, usize) {
+fn span(wanted: Wanted<'_>, sending: usize, number: u64, receiver: ThreadId) -> (usize, usize) {
+    if let Some(turned) = wanted.turned_by(sending) {
+        // its transfer begins there
+        return if turned == sending.saturating_add(1) {
+            (0, sending)
+        } else {
+            (turned, turned)
+        };
+    }
     let Some(told) = wanted.name_from(sending.saturating_add(1), number) else {
         return (0, wanted.kept.len());
     };
     if let Some(Entry::Given(_)) = wanted.kept.get(told) {
-        // its bytes move from then on
-        return (free_from(wanted, told, receiver), told);
+        // its bytes move from then on, and those of no later call between
+        let free = free_from(wanted, told, receiver);
+        return (free.max(wanted.place_behind_moves(told, number)), told);
+    }
+    if wanted.is_turned_at(told) && wanted.relay_at(told, number).is_some() {
+        // a call that is not kept passes a message on then
+        return (0, told);
     }
     for place in (sending..told).rev() {
         if let Some(Entry::Given(input)) = wanted.kept.get(place) {
@@ -330,6 +430,7 @@ fn due(wanted: Wanted<'_>, sending: usize, number: u64, receiver: ThreadId) -> (
                 Input::Called(asking, _, call) if wanted.is_named_at(told, *asking) => {
                     (0, if is_patient(call.call()) { told } else { place })
                 }
+                _ if wanted.is_turned_at(told) => (0, place),
                 _ => (told, told),
             };
         }

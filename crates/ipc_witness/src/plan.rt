@@ -1,6 +1,6 @@
 // The steps to a history that ends as a part says, and who makes the calls between them.
 use crate::allotment::Allotment;
-use crate::budget::Budget;
+use crate::budget::{Budget, OTHERS};
 use crate::messages::{Message, Messages, Pair, Relay, find_messages};
 use crate::wanted::Wanted;
 use crate::windows::{Windows, find_windows};
@@ -27,6 +27,8 @@ pub struct Receipt {
     pub sending: usize,
     /// The number that it has at the earliest.
     pub number: u64,
+    /// The moment at which it comes at the earliest.
+    pub moment: u64,
     /// Whether it sends a message before, which that one answers.
     pub is_answer: bool,
 }
@@ -98,12 +100,20 @@ fn draft(alloc: Global, wanted: Wanted<'_>, apart: &[usize]) -> Result<Plan, All
         let given = allotment.give(receiver(at), 1)?;
         missing = missing.saturating_add(1).saturating_sub(given);
     }
-    missing = missing.saturating_add(allotment.give_all(alloc, &budget)?);
+    let _ = allotment.give_all(alloc, &budget)?;
     let mut places = Vec::with_capacity(alloc, messages.len())?;
     for at in 0..messages.len() {
         let maker = budget.maker_of(messages[at].thread);
-        places.push(settle(wanted, &mut allotment, at, &messages[at], maker)?)?;
+        let place = settle(wanted, &mut allotment, at, &messages[at], maker)?;
+        places.push(place)?;
+        // it is not free from then on
+        let (since, until) = (wanted.gap_at(place), wanted.gap_at(messages[at].over));
+        if maker != OTHERS && since < until {
+            allotment.close(alloc, maker, since.saturating_add(1), until)?;
+        }
     }
+    allotment.begin_again(0);
+    missing = missing.saturating_add(allotment.give_all(alloc, &budget)?);
     let steps = steps(alloc, wanted, messages.as_slice(), places.as_slice())?;
     Ok(Plan {
         budget,
@@ -153,13 +163,12 @@ fn allow(
     maker: usize,
     message: &Message,
 ) -> Result<(), AllocError> {
-    let behind = message
-        .sending
-        .saturating_add(1)
-        .max(message.first)
-        .max(message.free);
-    if message.is_patient && behind <= message.last {
-        allotment.allow(maker, wanted.gap_at(behind), wanted.gap_at(message.last))?;
+    if message.is_patient && message.behind() <= message.last {
+        allotment.allow(
+            maker,
+            wanted.gap_at(message.behind()),
+            wanted.gap_at(message.last),
+        )?;
     }
     if message.first <= message.until && message.free <= message.until {
         allotment.allow(
@@ -171,6 +180,14 @@ fn allow(
     Ok(())
 }
 
+/// Whether a message may be received in a gap, behind the first one where it may.
+fn may_be_in(wanted: Wanted<'_>, message: &Message, gap: usize) -> bool {
+    gap <= wanted.gap_at(message.until)
+        || message.is_patient
+            && wanted.gap_at(message.behind()) <= gap
+            && gap <= wanted.gap_at(message.last)
+}
+
 /// At which place a message is received. Where its receiver makes another call after that and
 /// before the message comes, it makes them the other way round.
 fn settle(
@@ -180,13 +197,12 @@ fn settle(
     message: &Message,
     maker: usize,
 ) -> Result<usize, AllocError> {
-    let until = wanted.gap_at(message.until);
     let Some(gap) = allotment.gap_of(receiver(at)) else {
         return Ok(message.until);
     };
     let mut best = gap;
-    for other in gap..until.saturating_add(1) {
-        if allotment.count(maker, other) > 0 {
+    for other in gap..wanted.gap_at(message.over).saturating_add(1) {
+        if allotment.count(maker, other) > 0 && may_be_in(wanted, message, other) {
             best = other;
         }
     }
@@ -207,13 +223,15 @@ fn steps(
     let mut steps = Vec::new(alloc);
     for place in 0..wanted.kept.len().saturating_add(1) {
         let mut number = first_number(wanted, places, place);
-        for at in 0..messages.len() {
-            if places.get(at).copied() == Some(place) {
+        let received = received_at(alloc, messages, places, place)?;
+        for (moment, at) in received.as_slice() {
+            if let Some(message) = messages.get(*at) {
                 steps.push(Step::Receive(Receipt {
-                    thread: messages[at].thread,
-                    sending: messages[at].sending,
+                    thread: message.thread,
+                    sending: message.sending,
                     number,
-                    is_answer: messages[at].is_answer,
+                    moment: *moment,
+                    is_answer: message.is_answer,
                 }))?;
                 number = number.saturating_add(1);
             }
@@ -223,6 +241,25 @@ fn steps(
         }
     }
     Ok(steps)
+}
+
+/// Which messages are received at a place, those first that may come first, each behind the moment
+/// before which it may not come.
+fn received_at(
+    alloc: Global,
+    messages: &[Message],
+    places: &[usize],
+    place: usize,
+) -> Result<Vec<(u64, usize)>, AllocError> {
+    let mut found = Vec::new(alloc);
+    for at in 0..messages.len() {
+        if places.get(at).copied() == Some(place) {
+            let is_sent = messages[at].sending < place;
+            found.push((if is_sent { messages[at].moment } else { 0 }, at))?;
+        }
+    }
+    found.sort_unstable();
+    Ok(found)
 }
 
 /// The number that the first receiving call at a place has: where a gap ends there, they are the

@@ -34,6 +34,39 @@ impl Wanted<'_> {
         }
     }
 
+    /// The place of the last kept entry by which bytes of a call move.
+    pub(crate) fn place_of_moves(&self, number: u64) -> Option<usize> {
+        for at in (0..self.kept.len()).rev() {
+            if let Entry::Given(Input::Moved(sending, _)) = &self.kept[at] {
+                if *sending == number {
+                    return Some(at);
+                }
+            }
+        }
+        None
+    }
+
+    /// The place behind the last kept entry before a place by which bytes of a later call than this
+    /// one move: of all transfers the one of the earliest call goes on.
+    pub(crate) fn place_behind_moves(&self, place: usize, number: u64) -> usize {
+        for at in (0..place.min(self.kept.len())).rev() {
+            if let Entry::Given(Input::Moved(sending, _)) = &self.kept[at] {
+                if *sending > number {
+                    return at.saturating_add(1);
+                }
+            }
+        }
+        0
+    }
+
+    /// Whether a receive is turned at a place.
+    pub(crate) fn is_turned_at(&self, place: usize) -> bool {
+        matches!(
+            self.kept.get(place),
+            Some(Entry::Written(Output::Turned(_, _)))
+        )
+    }
+
     /// Whether a kept entry from a place on names a call.
     pub fn names_from(&self, place: usize, number: u64) -> bool {
         self.name_from(place, number).is_some()
@@ -88,6 +121,66 @@ impl Wanted<'_> {
             }
         }
         gap
+    }
+
+    /// The moment before the kept entry at a place.
+    pub(crate) fn moment_at(&self, place: usize) -> u64 {
+        let mut moment: u64 = 0;
+        for at in 0..place.min(self.kept.len()) {
+            if let Some(later) = self.kept[at].moment() {
+                moment = later;
+            }
+        }
+        moment
+    }
+
+    /// The first place before which a moment can come: it is then, or a later kept one follows.
+    pub(crate) fn place_of(&self, moment: u64) -> usize {
+        let mut place: usize = 0;
+        let mut before: u64 = 0;
+        for at in 0..self.kept.len() {
+            if before >= moment {
+                break;
+            }
+            if let Some(later) = self.kept[at].moment() {
+                if later > moment {
+                    break;
+                }
+                before = later;
+                place = at.saturating_add(1);
+            }
+        }
+        place
+    }
+
+    /// The last place before which it is not later than a moment.
+    pub(crate) fn place_until(&self, moment: u64) -> usize {
+        for at in 0..self.kept.len() {
+            if let Some(later) = self.kept[at].moment() {
+                if later > moment {
+                    return at;
+                }
+            }
+        }
+        self.kept.len()
+    }
+
+    /// The place of the kept entry behind a place up to which a call waits to receive, where it does
+    /// so from its send phase on.
+    pub(crate) fn end_of_wait(&self, place: usize, number: u64) -> Option<usize> {
+        for at in place.saturating_add(1)..self.kept.len() {
+            let entry = &self.kept[at];
+            match entry {
+                Entry::Given(Input::Moved(sending, _)) if *sending == number => return None,
+                Entry::Written(Output::Turned(_, _)) => {}
+                _ => {
+                    if names(entry, number) {
+                        return Some(at);
+                    }
+                }
+            }
+        }
+        None
     }
 
     /// Where a gap ends: the place of the kept call behind it, or the end.
@@ -146,14 +239,41 @@ impl Wanted<'_> {
     /// turns it. None where a kept call does that.
     pub(crate) fn relay_at(&self, place: usize, number: u64) -> Option<(ThreadId, ThreadId)> {
         let (caller, by) = self.awaiting_at(place, number)?;
-        if let Some(Entry::Written(Output::Began(sending, _))) = self
-            .kept
-            .get(place.checked_sub(1)?)
-            && self.caller(*sending) == Some(by)
-        {
-            return None;
+        match self.turning_at(place, number) {
+            Some(_) => None,
+            None => Some((caller, by)),
         }
-        Some((caller, by))
+    }
+
+    /// The place of the kept call that turns the receive of a call at a place: who is awaited makes
+    /// it in the name of the caller, and no other kept call between.
+    pub(crate) fn turning_at(&self, place: usize, number: u64) -> Option<usize> {
+        let (caller, by) = self.awaiting_at(place, number)?;
+        for at in (0..place.min(self.kept.len())).rev() {
+            if let Entry::Given(Input::Called(_, other, call)) = &self.kept[at] {
+                if *other == by {
+                    let passes = call.call().tag().propagates();
+                    return if passes && call.call().originator() == caller {
+                        Some(at)
+                    } else {
+                        None
+                    };
+                }
+            }
+        }
+        None
+    }
+
+    /// The place at which the message of the kept call at a place turns a receive, where it does.
+    pub(crate) fn turned_by(&self, place: usize) -> Option<usize> {
+        for at in place.saturating_add(1)..self.kept.len() {
+            if let Entry::Written(Output::Turned(number, _)) = &self.kept[at] {
+                if self.turning_at(at, *number) == Some(place) {
+                    return Some(at);
+                }
+            }
+        }
+        None
     }
 
     /// The caller of a kept call, and for whom it waits before a place.
@@ -240,6 +360,19 @@ impl Wanted<'_> {
             }
         }
         0
+    }
+
+    /// Whether a kept thread is live before the kept entry at a place.
+    pub fn lives_at(&self, place: usize, thread: ThreadId) -> bool {
+        let mut lives = false;
+        for at in 0..place.min(self.kept.len()) {
+            match &self.kept[at] {
+                Entry::Given(Input::Opened(opened, _)) if *opened == thread => lives = true,
+                Entry::Given(Input::Broke(broken)) if *broken == thread => lives = false,
+                _ => {}
+            }
+        }
+        lives
     }
 
     /// Whether a kept entry tells that a call before a number received the message of a call.

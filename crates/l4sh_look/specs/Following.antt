@@ -2,8 +2,11 @@
 -- say of the calls that it speaks of.
 use Rattle.std.specs.Prelude.{◌≡◌, ℕ, List, [], ◌∷◌, ◌++◌, Bool, true, false, ◌==◌, Option, Some, None, find, map, option_map, if◌then◌else◌}
 use Rattle.std.specs.List.{fold}
+use Rattle.ipc_words.specs.IpcError.{phase_of}
 use Rattle.ipc_words.specs.MsgTag.{label_of}
 use Rattle.ipc_words.specs.ThreadId.{nilthread}
+use Rattle.ipc_words.specs.declared.ipc_error.Phase.{Phase}
+use Rattle.ipc_words.specs.declared.ipc_error.Phase.TheVariants.{Send, Receive}
 use Rattle.ipc_history.specs.CallParts.{CallParts}
 use Rattle.ipc_history.specs.declared.entry.Entry.{Entry}
 use Rattle.ipc_history.specs.declared.entry.Entry.TheVariants.{Given, Written}
@@ -72,21 +75,45 @@ last_calls entries = fold noted [] entries
 abbrev pub call_at : List LastCall → ℕ → Option LastCall
 call_at calls number = find (λ call. call.number == number) calls
 
-abbrev pub alone : ℕ → Subject
-alone thread = record { thread = thread; other = thread; label = None; is_failure = false }
+-- another thread, or this one where nilthread stands for it
+abbrev pub or_self : ℕ → ℕ → ℕ
+or_self thread other = if other == nilthread then thread else other
 
--- a call is about its caller and the receiver of its send phase, or its FromSpecifier where it has
--- none
-abbrev pub about_phases : ℕ → ℕ → ℕ → ℕ → Subject
-about_phases caller to from label = record {
+abbrev pub alone : ℕ → Subject
+alone thread =
+    record { thread = thread; other = thread; awaited = thread; originator = thread; label = None; is_failure = false }
+
+-- the label of a message to this receiver
+abbrev pub label_sent : ℕ → ℕ → Option ℕ
+label_sent to label = if to == nilthread then None else Some label
+
+-- a call that is entered is about its caller, the receiver of its send phase, its FromSpecifier,
+-- and its originator, which is nilthread where its tag does not propagate
+abbrev pub about_entered : ℕ → CallParts → Subject
+about_entered caller call = record {
   thread = caller;
-  other = if to == nilthread then from else to;
-  label = if to == nilthread then None else Some label;
+  other = or_self caller call.to;
+  awaited = or_self caller call.from;
+  originator = or_self caller call.originator;
+  label = label_sent call.to (label_of call.tag);
   is_failure = false;
 }
 
-abbrev pub about_call : LastCall → Subject
-about_call call = about_phases call.caller call.to call.from call.label
+-- what comes of a call is about its caller and one other thread
+abbrev pub about_call : ℕ → LastCall → Subject
+about_call other call = record {
+  thread = call.caller;
+  other = or_self call.caller other;
+  awaited = call.caller;
+  originator = call.caller;
+  label = label_sent call.to call.label;
+  is_failure = false;
+}
+
+-- the partner of a phase
+abbrev pub partner_in : Phase → LastCall → ℕ
+partner_in Send call = call.to
+partner_in Receive call = call.from
 
 abbrev pub failed : Subject → Subject
 failed subject = record subject { is_failure = true }
@@ -94,30 +121,30 @@ failed subject = record subject { is_failure = true }
 -- a transfer is about the callers of its two calls
 abbrev pub about_pair : Bool → Option LastCall → Option LastCall → Option Subject
 about_pair is_failure (Some sending) (Some receiving) =
-    Some record { thread = sending.caller; other = receiving.caller; label = Some sending.label; is_failure = is_failure }
+    Some (record (alone sending.caller) { other = receiving.caller; label = Some sending.label; is_failure = is_failure })
 about_pair is_failure (Some sending) None = None
 about_pair is_failure None receiving = None
 
 abbrev pub about_output : List LastCall → Output → Option Subject
 about_output calls (Began sending receiving) = about_pair false (call_at calls sending) (call_at calls receiving)
-about_output calls (Turned number thread) = option_map about_call (call_at calls number)
+about_output calls (Turned number thread) = option_map (about_call thread) (call_at calls number)
 about_output calls (Ended sending receiving) = about_pair false (call_at calls sending) (call_at calls receiving)
 about_output calls (Overflowed sending receiving count) =
     about_pair true (call_at calls sending) (call_at calls receiving)
 about_output calls (Aborted sending receiving count) =
     about_pair true (call_at calls sending) (call_at calls receiving)
 about_output calls (Failed number error) =
-    option_map (λ call. failed (about_call call)) (call_at calls number)
+    option_map (λ call. failed (about_call (partner_in (phase_of error) call) call)) (call_at calls number)
 
 -- what an entry is about, with the last calls behind it; nothing for a moment by itself, and where
 -- it names a call that is none of them
 abbrev pub about : List LastCall → Entry → Option Subject
 about calls (Given (At moment)) = None
 about calls (Given (Opened thread space)) = Some (alone thread)
-about calls (Given (Called number caller call)) = Some (about_phases caller call.to call.from (label_of call.tag))
+about calls (Given (Called number caller call)) = Some (about_entered caller call)
 about calls (Given (Exreg thread other control)) = Some (record (alone thread) { other = other })
 about calls (Given (Broke thread)) = Some (alone thread)
-about calls (Given (Moved number count)) = option_map about_call (call_at calls number)
+about calls (Given (Moved number count)) = option_map (λ call. about_call call.to call) (call_at calls number)
 about calls (Written output) = about_output calls output
 
 -- what an entry behind these ones is about

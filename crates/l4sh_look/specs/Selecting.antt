@@ -5,13 +5,14 @@ use Rattle.std.specs.List.{list_any}
 use Rattle.l4sh_look.specs.declared.selection.Selection.{Selection}
 use Rattle.l4sh_look.specs.declared.selection.Subject.{Subject}
 
-abbrev pub is_one_of : ℕ → ℕ → ℕ → Bool
-is_one_of thread other one = (one == thread) || (one == other)
+abbrev pub is_one_of : Subject → ℕ → Bool
+is_one_of subject one =
+    (one == subject.thread) || (one == subject.other) || (one == subject.awaited) || (one == subject.originator)
 
--- one of two threads is among those that were chosen, or none was chosen
-abbrev pub names_one : Option (Vec ℕ) → ℕ → ℕ → Bool
-names_one None thread other = true
-names_one (Some chosen) thread other = list_any (is_one_of thread other) chosen.items
+-- one of its threads is among those that were chosen, or none was chosen
+abbrev pub names_one : Option (Vec ℕ) → Subject → Bool
+names_one None subject = true
+names_one (Some chosen) subject = list_any (is_one_of subject) chosen.items
 
 -- the label is the one that was chosen, or none was chosen
 abbrev pub has_label : Option ℕ → Option ℕ → Bool
@@ -23,6 +24,6 @@ has_label (Some chosen) (Some label) = label == chosen
 -- failures alone are told
 abbrev pub is_told : Selection → Subject → Bool
 is_told selection subject =
-    names_one selection.threads subject.thread subject.other
+    names_one selection.threads subject
     && has_label selection.label subject.label
     && (not selection.failures || subject.is_failure)

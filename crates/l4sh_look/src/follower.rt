@@ -1,13 +1,14 @@
 ghost use Rattle.std.specs.Prelude.{◌≡◌, option_map};
-ghost use Rattle.ipc_words.specs.MsgTag.{label_of};
-ghost use Rattle.l4sh_look.specs.Following.{about, about_call, about_output, about_pair, about_phases, alone};
-ghost use Rattle.l4sh_look.specs.Following.{call_at, call_of_note, last_calls};
+ghost use Rattle.ipc_words.specs.IpcError.{phase_of};
+ghost use Rattle.l4sh_look.specs.Following.{about, about_call, about_entered, about_output};
+ghost use Rattle.l4sh_look.specs.Following.{about_pair, alone, call_of_note, failed, label_sent};
+ghost use Rattle.l4sh_look.specs.Following.{last_calls, or_self, partner_in};
 
 use crate::notes::{Note, Notes};
 use crate::selection::{Selection, Subject};
 use crate::telling::tell_entry;
 use ipc_history::{Call, Entry, Input, Output};
-use ipc_words::ThreadId;
+use ipc_words::{IpcError, Phase, ThreadId};
 use l4sh_state::Times;
 use std::alloc::{AllocError, Global};
 use std::marker::Model;
@@ -139,7 +140,7 @@ fn subject_of(entry: &Entry, notes: &Notes) -> Option<Subject>
             ..alone(*thread)
         }),
         Entry::Given(Input::Called(_, caller, call)) => Some(of_entered(*caller, call.call())),
-        Entry::Given(Input::Moved(number, _)) => of_number(notes, *number),
+        Entry::Given(Input::Moved(number, _)) => of_bytes(notes.get(*number)),
         Entry::Written(output) => subject_of_output(*output, notes),
     }
 }
@@ -154,21 +155,24 @@ fn subject_of_output(output: Output, notes: &Notes) -> Option<Subject>
         Output::Overflowed(sending, receiving, _) | Output::Aborted(sending, receiving, _) => {
             between(notes.get(sending), notes.get(receiving), true)
         }
-        Output::Turned(number, _) => of_number(notes, number),
-        Output::Failed(number, _) => match notes.get(number) {
-            Some(call) => Some(Subject {
-                is_failure: true,
-                ..of_call(&call)
-            }),
-            None => None,
-        },
+        Output::Turned(number, thread) => of_turned(notes.get(number), thread),
+        Output::Failed(number, error) => of_failed(notes.get(number), error),
     }
 }
 
+// A call that is entered: its caller, the receiver of its send phase, its FromSpecifier, and its
+// originator.
 fn of_entered(caller: ThreadId, call: &Call) -> Subject
-    ensures { result ≡ about_phases caller call.now.to call.now.from (label_of call.now.tag) }
+    ensures { result ≡ about_entered caller call.now }
 {
-    of_phases(caller, call.to(), call.from(), call.tag().label())
+    Subject {
+        thread: caller,
+        other: or_self(caller, call.to()),
+        awaited: or_self(caller, call.from()),
+        originator: or_self(caller, call.originator()),
+        label: label_sent(call.to(), call.tag().label()),
+        is_failure: false,
+    }
 }
 
 fn alone(thread: ThreadId) -> Subject
@@ -177,37 +181,88 @@ fn alone(thread: ThreadId) -> Subject
     Subject {
         thread,
         other: thread,
+        awaited: thread,
+        originator: thread,
         label: None,
         is_failure: false,
     }
 }
 
-// A call of a number.
-fn of_number(notes: &Notes, number: u64) -> Option<Subject>
-    ensures { result ≡ option_map about_call (call_at (last_calls notes.now) number) }
+// Another thread, or this one where nilthread stands for it.
+fn or_self(thread: ThreadId, other: ThreadId) -> ThreadId
+    ensures { result ≡ or_self thread other }
 {
-    match notes.get(number) {
-        Some(call) => Some(of_call(&call)),
+    if other == ThreadId::NILTHREAD {
+        thread
+    } else {
+        other
+    }
+}
+
+// The label of a message to this receiver.
+fn label_sent(to: ThreadId, label: u64) -> Option<u64>
+    ensures { result ≡ label_sent to label }
+{
+    if to == ThreadId::NILTHREAD {
+        None
+    } else {
+        Some(label)
+    }
+}
+
+// What comes of a call: its caller and another thread.
+fn of_call(call: &Note, other: ThreadId) -> Subject
+    ensures { result ≡ about_call other (call_of_note call.now) }
+{
+    Subject {
+        other: or_self(call.caller, other),
+        label: label_sent(call.to, call.label),
+        ..alone(call.caller)
+    }
+}
+
+// Bytes that were copied.
+fn of_bytes(call: Option<Note>) -> Option<Subject>
+    ensures { result ≡ option_map (λ call. about_call call.to call) (option_map call_of_note call) }
+{
+    match call {
+        Some(call) => Some(of_call(&call, call.to)),
         None => None,
     }
 }
 
-fn of_call(call: &Note) -> Subject
-    ensures { result ≡ about_call (call_of_note call.now) }
+// A call that waits for another thread from now on.
+fn of_turned(call: Option<Note>, thread: ThreadId) -> Option<Subject>
+    ensures { result ≡ option_map (about_call thread) (option_map call_of_note call) }
 {
-    of_phases(call.caller, call.to, call.from, call.label)
+    match call {
+        Some(call) => Some(of_call(&call, thread)),
+        None => None,
+    }
 }
 
-// A call: its caller, and the receiver of its send phase, or the FromSpecifier where it has none.
-fn of_phases(caller: ThreadId, to: ThreadId, from: ThreadId, label: u64) -> Subject
-    ensures { result ≡ about_phases caller to from label }
+// A phase that failed: the caller and the partner in it.
+fn of_failed(call: Option<Note>, error: IpcError) -> Option<Subject>
+    ensures { result ≡ option_map
+        (λ call. failed (about_call (partner_in (phase_of error) call) call))
+        (option_map call_of_note call) }
 {
-    let sends = to != ThreadId::NILTHREAD;
-    Subject {
-        thread: caller,
-        other: if sends { to } else { from },
-        label: if sends { Some(label) } else { None },
-        is_failure: false,
+    match call {
+        Some(call) => Some(Subject {
+            is_failure: true,
+            ..of_call(&call, partner_in(error.phase(), &call))
+        }),
+        None => None,
+    }
+}
+
+// The partner of a phase.
+fn partner_in(phase: Phase, call: &Note) -> ThreadId
+    ensures { result ≡ partner_in phase (call_of_note call.now) }
+{
+    match phase {
+        Phase::Send => call.to,
+        Phase::Receive => call.from,
     }
 }
 
@@ -218,10 +273,10 @@ fn between(sending: Option<Note>, receiving: Option<Note>, is_failure: bool) -> 
 {
     match (sending, receiving) {
         (Some(sending), Some(receiving)) => Some(Subject {
-            thread: sending.caller,
             other: receiving.caller,
             label: Some(sending.label),
             is_failure,
+            ..alone(sending.caller)
         }),
         _ => None,
     }

@@ -25,6 +25,10 @@ pub(crate) struct Subject {
     pub(crate) thread: ThreadId,
     /// The other one; the same where there is none.
     pub(crate) other: ThreadId,
+    /// The FromSpecifier of a call that is entered; the same where there is none.
+    pub(crate) awaited: ThreadId,
+    /// Its originator; the same where there is none.
+    pub(crate) originator: ThreadId,
     /// The label of the message; None where there is no message.
     pub(crate) label: Option<u64>,
     /// Whether it is a failure.
@@ -46,32 +50,35 @@ impl Selection {
     pub(crate) fn tells(&self, subject: &Subject) -> bool
         ensures { result ≡ is_told self.now subject.now }
     {
-        names_one(&self.threads, subject.thread, subject.other)
+        names_one(&self.threads, *subject)
             && has_label(self.label, subject.label)
             && (!self.failures || subject.is_failure)
     }
 }
 
-// Whether one of two threads is among those that were chosen.
-fn names_one(chosen: &Option<Vec<ThreadId>>, thread: ThreadId, other: ThreadId) -> bool
-    ensures { result ≡ names_one chosen.now thread other }
+// Whether a thread of this subject is among those that were chosen.
+fn names_one(chosen: &Option<Vec<ThreadId>>, subject: Subject) -> bool
+    ensures { result ≡ names_one chosen.now subject }
 {
     match chosen {
-        Some(chosen) => is_among(chosen, thread, other),
+        Some(chosen) => is_among(chosen, subject),
         None => true,
     }
 }
 
-fn is_among(chosen: &[ThreadId], thread: ThreadId, other: ThreadId) -> bool
-    ensures { result ≡ list_any (is_one_of thread other) chosen.now }
+fn is_among(chosen: &[ThreadId], subject: Subject) -> bool
+    ensures { result ≡ list_any (is_one_of subject) chosen.now }
 {
-    chosen.iter().any(|one| is_one_of(*one, thread, other))
+    chosen.iter().any(|one| is_one_of(*one, subject))
 }
 
-fn is_one_of(one: ThreadId, thread: ThreadId, other: ThreadId) -> bool
-    ensures { result ≡ is_one_of thread other one }
+fn is_one_of(one: ThreadId, subject: Subject) -> bool
+    ensures { result ≡ is_one_of subject one }
 {
-    one == thread || one == other
+    one == subject.thread
+        || one == subject.other
+        || one == subject.awaited
+        || one == subject.originator
 }
 
 // Whether a label is the one that was chosen.

@@ -15,7 +15,7 @@ const MOST_FOLLOWERS: usize = 4;
 
 /// How many bytes of lines one who follows may not have sent yet. The room for them is at most
 /// twice as much.
-const MOST_BYTES: usize = 4_194_304;
+const MOST_BYTES: usize = 16_777_216;
 
 /// How long who follows waits for lines in one turn, in milliseconds.
 const TURN: u64 = 200;
@@ -61,7 +61,7 @@ struct Follower {
     skipped: usize,
     /// How many bytes he was given last, which he may not have sent yet.
     given: usize,
-    ghost within: { length lines.items + given ≤ 4194304 },
+    ghost within: { length lines.items + given ≤ 16777216 },
 }
 
 impl Follower {

@@ -260,11 +260,16 @@ def refusals(place):
             assert not os.path.exists(f"{bare}/to"), "a refused tree leaves a folder"
         helped = run(f"{bare}/packaging/deb", "--help")
         assert helped.returncode == 0 and "makes Debian packages" in helped.stdout, helped
-    refused = run(f"{ROOT}/install", env={**os.environ, "DESTDIR": place, "PREFIX": "usr"})
-    assert refused.returncode == 2 and "PREFIX" in refused.stderr, refused
+    for name, value in (("PREFIX", "usr"), ("PREFIX", ""), ("LIBDIR", "/elsewhere/lib"), ("LIBDIR", "../lib"), ("PYTHONDIR", f"{PREFIX}x/python")):
+        refused = run(f"{ROOT}/install", env={**os.environ, "DESTDIR": place, "PREFIX": PREFIX, "PYTHONDIR": PYTHON, name: value})
+        assert refused.returncode == 2 and name in refused.stderr, refused
+    assert not os.path.exists(f"{place}/elsewhere"), "a refused folder is made"
+    made = run(f"{ROOT}/install", env={**os.environ, "DESTDIR": f"{place}/more", "PREFIX": f"{PREFIX}/", "LIBDIR": f"{PREFIX}/lib64", "PYTHONDIR": f"{PREFIX}/{PYTHON}"})
+    more = found_in(f"{place}/more{PREFIX}")
+    assert made.returncode == 0 and f"{PYTHON}/l4ipc/__init__.py" in more and (not shutil.which("cc") or "lib64/libl4ipc.so" in more), (made, more)
     refused = installed(place, "--remove")
     assert refused.returncode == 2 and "usage" in refused.stderr, refused
-    return 6
+    return 11
 
 
 def debs(place):

@@ -165,8 +165,8 @@ impl Wanted<'_> {
         self.kept.len()
     }
 
-    /// The place of the kept entry behind a place up to which a call waits to receive, where it does
-    /// so from its send phase on.
+    /// The place of the kept entry behind a place up to which a call waits to receive, where it
+    /// does so from its send phase on.
     pub(crate) fn end_of_wait(&self, place: usize, number: u64) -> Option<usize> {
         for at in place.saturating_add(1)..self.kept.len() {
             let entry = &self.kept[at];

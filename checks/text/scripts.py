@@ -16,7 +16,7 @@ each line of COMMAND.in is read alone, and ends as bad line 1, with that line of
 In `live` NAME.in is typed into `l4sh talk DIR`, where a server listens that NAME.frames writes down: what it hears, to the byte, and what it says then, line by line.
 Behind the last line it says nothing more, and hears nothing. What it says comes whole, and then byte by byte.
 
-A chart of a part of each short trace of `chart` has the bars that the chart of the whole trace has in these rows: from each entry on, up to each entry, and of each thread.
+A chart of a part of each short trace of `chart` has the bars and life lines that the chart of the whole trace has in these rows: from each entry on, up to each entry, and of each thread.
 
 Then each example of examples/ prints what is stored beside it. And the script that `l4sh script` makes of a trace gives the trace back when it is run:
 of each example, and of each script in checks/scripts/run.
@@ -135,11 +135,11 @@ def faults_of_stored(l4sh, base):
 
 
 def bars_of(l4sh, trace, *options):
-    """For which threads of a chart there is a bar at each row, and which: `:`, `H` or none, by entries and threads."""
+    """For which threads of a chart there is a bar or a life line at each row, and which: `:`, `H`, `|` or none, by entries and threads."""
     printed = ended([l4sh, "chart", "--text", "--unfolded", *options, "-"], trace)[0].decode()
     names, *rows = printed.partition("\n\n")[0].split("\n")
     lanes = [(name[0], name.start() + len(name[0]) // 2) for name in NAME.finditer(names, BEFORE_LANES)]
-    return {int(row[:7]): {name: row[at] if row[at] in ":H" else "" for name, at in lanes} for row in rows if row[:7].strip().isdigit()}
+    return {int(row[:7]): {name: row[at] if row[at] in ":H|" else "" for name, at in lanes} for row in rows if row[:7].strip().isdigit()}
 
 
 def faults_of_bars(l4sh, path):

@@ -1,5 +1,5 @@
-//! What threads wait for from row to row. It is kept of each thread, since one that waits may get
-//! its column by a later row.
+//! Which threads live, and what they wait for, from row to row. It is kept of each thread, since
+//! one may get its column by a later row.
 ghost use Rattle.std.specs.Prelude.{◌≡◌, ℕ, OnOk};
 ghost use Rattle.l4sh_chart.specs.Waiting.{wait_behind, wait_in};
 
@@ -12,7 +12,7 @@ use std::alloc::{AllocError, Global};
 use std::collections::BTreeMap;
 use std::mem;
 
-/// What a thread waits for from a row on.
+/// Whether a thread lives, and what it waits for, from a row on.
 #[derive(Clone, Copy)]
 struct ThreadTurn {
     row: usize,
@@ -21,18 +21,18 @@ struct ThreadTurn {
     change: Change,
 }
 
-/// What threads wait for from row to row, by their words.
+/// What the live threads wait for from row to row, by their words.
 #[derive(Drop)]
 pub(crate) struct Bars {
-    // of those that wait, as the turns say
+    // of those that live, as the turns say
     waits: BTreeMap<u64, Wait>,
-    // what changed by entries behind the last row
-    hidden: BTreeMap<u64, Wait>,
+    // what changed by entries behind the last row; None: it ended
+    hidden: BTreeMap<u64, Option<Wait>>,
     turns: Vec<ThreadTurn>,
 }
 
 impl Bars {
-    /// No thread waits.
+    /// No thread lives.
     pub(crate) fn new(alloc: Global) -> Bars {
         Bars {
             waits: BTreeMap::new(alloc),
@@ -47,7 +47,7 @@ impl Bars {
         put_behind(&mut self.hidden, &self.waits, thread, change.wait)
     }
 
-    /// Above a row threads wait for what the entries say that have no row.
+    /// Above a row threads live and wait as the entries say that have no row.
     pub(crate) fn turn_above(&mut self, row: usize) -> Result<(), AllocError> {
         if self.hidden.is_empty() {
             return Ok(());
@@ -59,7 +59,11 @@ impl Bars {
         done
     }
 
-    fn turn_all(&mut self, row: usize, hidden: &BTreeMap<u64, Wait>) -> Result<(), AllocError> {
+    fn turn_all(
+        &mut self,
+        row: usize,
+        hidden: &BTreeMap<u64, Option<Wait>>,
+    ) -> Result<(), AllocError> {
         for (word, wait) in hidden {
             let change = Change {
                 thread: ThreadId::from_word(*word),
@@ -103,47 +107,51 @@ impl Bars {
     }
 }
 
-// What a thread waits for, where those that wait are these.
-fn wait_in(waits: &BTreeMap<u64, Wait>, thread: u64) -> Wait
+// What a thread waits for, where these live; None: it does not live.
+fn wait_in(waits: &BTreeMap<u64, Wait>, thread: u64) -> Option<Wait>
     ensures { result ≡ wait_in waits.now thread }
 {
     match waits.get(&thread) {
-        Some(wait) => *wait,
-        None => Wait::Nothing,
+        Some(wait) => Some(*wait),
+        None => None,
     }
 }
 
-// A thread waits for that from now on.
-fn put_wait(waits: &mut BTreeMap<u64, Wait>, thread: u64, wait: Wait) -> Result<(), AllocError>
+// A thread waits for that from now on, or does not live.
+fn put_wait(
+    waits: &mut BTreeMap<u64, Wait>,
+    thread: u64,
+    wait: Option<Wait>,
+) -> Result<(), AllocError>
     ensures own { OnOk result (wait_in waits.new thread ≡ wait) }
     ensures others { OnOk result ((other : ℕ) → (other ≡ thread → ⊥)
         → wait_in waits.new other ≡ wait_in waits.old other) }
 {
     match wait {
-        Wait::Nothing => {
+        None => {
             let _ = waits.remove(&thread);
         }
-        Wait::Sends | Wait::Receives => {
+        Some(wait) => {
             waits.insert(thread, wait)?;
         }
     }
     Ok(())
 }
 
-// A thread waits for that by an entry that has no row. Of one that waits for nothing, and did not
-// at the last row, nothing is kept.
+// A thread waits for that by an entry that has no row, or has ended. Of one that does not live, and
+// did not at the last row, nothing is kept.
 fn put_behind(
-    hidden: &mut BTreeMap<u64, Wait>,
+    hidden: &mut BTreeMap<u64, Option<Wait>>,
     waits: &BTreeMap<u64, Wait>,
     thread: u64,
-    wait: Wait,
+    wait: Option<Wait>,
 ) -> Result<(), AllocError>
     ensures own { OnOk result (wait_behind waits.now hidden.new thread ≡ wait) }
     ensures others { OnOk result ((other : ℕ) → (other ≡ thread → ⊥)
         → wait_behind waits.now hidden.new other ≡ wait_behind waits.now hidden.old other) }
 {
     match wait {
-        Wait::Nothing if waits.get(&thread).is_none() => {
+        None if waits.get(&thread).is_none() => {
             let _ = hidden.remove(&thread);
         }
         _ => {

@@ -94,14 +94,14 @@ impl Event {
     }
 }
 
-/// What a thread waits for from then on.
+/// What a thread waits for from then on; None: it does not live.
 #[derive(Clone, Copy)]
 pub(crate) struct Change {
     pub(crate) thread: ThreadId,
-    pub(crate) wait: Wait,
+    pub(crate) wait: Option<Wait>,
 }
 
-/// The threads whose waits change by an entry, two at most.
+/// The threads whose waits change by an entry, or that begin or end, two at most.
 #[derive(Clone, Copy)]
 pub(crate) struct Changes {
     pub(crate) first: Option<Change>,
@@ -137,8 +137,8 @@ impl Step {
         }
     }
 
-    /// This is shown, and a thread waits for that from then on.
-    pub(crate) fn changing(event: Event, thread: ThreadId, wait: Wait) -> Step {
+    /// This is shown, and a thread waits for that from then on, or does not live.
+    pub(crate) fn changing(event: Event, thread: ThreadId, wait: Option<Wait>) -> Step {
         Step {
             event: Some(event),
             changes: Changes {

@@ -1,5 +1,5 @@
 use crate::calls::Wait;
-use crate::scene::{Column, Turn};
+use crate::scene::Turn;
 use std::alloc::{AllocError, Global};
 
 /// A place among the rows: above a row, or at it.
@@ -47,43 +47,28 @@ pub fn turns_upto(turns: &[Turn], next: usize, place: Place) -> &[Turn] {
     &turns[..count.min(turns.len())]
 }
 
-/// What a lane of a chart shows between two rows.
-#[derive(Clone, Copy)]
-pub struct Lane {
-    /// Whether its thread lives.
-    pub lives: bool,
-    /// What it waits for.
-    pub wait: Wait,
-}
+/// What a lane of a chart shows between two rows: what its thread waits for. None: it does not
+/// live.
+pub type Lane = Option<Wait>;
 
-/// Lanes of threads that are not opened yet, or live from the begin.
+/// Lanes of so many threads, of which none lives.
 ///
 /// # Errors
 ///
 /// No memory.
-pub fn lanes_of(alloc: Global, columns: &[Column]) -> Result<Vec<Lane>, AllocError> {
+pub fn lanes_of(alloc: Global, columns: usize) -> Result<Vec<Lane>, AllocError> {
     let mut lanes = Vec::new(alloc);
-    for column in columns {
-        lanes.push(Lane {
-            lives: !column.is_opened,
-            wait: Wait::Nothing,
-        })?;
+    for _ in 0..columns {
+        lanes.push(None)?;
     }
     Ok(lanes)
 }
 
-/// What threads wait for from these turns on.
+/// Which threads live, and what they wait for, from these turns on.
 pub fn turn_lanes(lanes: &mut [Lane], turns: &[Turn]) {
     for turn in turns {
         if let Some(lane) = lanes.get_mut(turn.column) {
-            lane.wait = turn.wait;
+            *lane = turn.wait;
         }
-    }
-}
-
-/// The thread of a column lives from there on, or does not.
-pub fn set_alive(lanes: &mut [Lane], column: usize, lives: bool) {
-    if let Some(lane) = lanes.get_mut(column) {
-        lane.lives = lives;
     }
 }

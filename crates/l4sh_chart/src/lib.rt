@@ -18,7 +18,7 @@ mod told;
 pub use calls::Wait;
 pub use events::Mark;
 pub use folding::Fold;
-pub use lanes::{Lane, Place, lanes_of, set_alive, turn_lanes, turns_upto};
+pub use lanes::{Lane, Place, lanes_of, turn_lanes, turns_upto};
 pub use maker::SceneMaker;
 pub use scene::{Column, Row, Said, Scene, Turn};
 pub use selection::{Emptiness, Selection};

@@ -145,8 +145,8 @@ impl SceneMaker {
         event: Event,
         changes: [Option<Change>; 2],
     ) -> Result<(), AllocError> {
-        let from = self.column(event.from, entry)?;
-        let to = self.column(event.to, entry)?;
+        let from = self.column(event.from)?;
+        let to = self.column(event.to)?;
         let call = self.call_of(event)?;
         let row = self.rows.len();
         self.bars.turn_above(row)?;
@@ -178,20 +178,19 @@ impl SceneMaker {
         }
     }
 
-    // The column of a thread, which this entry may open.
-    fn column(&mut self, thread: ThreadId, entry: &Entry) -> Result<usize, AllocError> {
+    // The column of a thread, which may be a new one.
+    fn column(&mut self, thread: ThreadId) -> Result<usize, AllocError> {
         match self.places.get(&thread.to_word()).copied() {
             Some(column) => Ok(column),
-            None => self.add_column(thread, entry),
+            None => self.add_column(thread),
         }
     }
 
-    fn add_column(&mut self, thread: ThreadId, entry: &Entry) -> Result<usize, AllocError> {
+    fn add_column(&mut self, thread: ThreadId) -> Result<usize, AllocError> {
         let column = self.columns.len();
         self.columns.push(Column {
             thread,
             space: self.notes.space(thread),
-            is_opened: entry.opens(thread),
         })?;
         self.places.insert(thread.to_word(), column)?;
         Ok(column)

@@ -54,10 +54,13 @@ impl Notes {
                 self.moment = *moment;
                 Ok(Step::NOTHING)
             }
-            Input::Opened(thread, _) => Ok(Step::of(Event::alone(Mark::Opened, *thread))),
+            Input::Opened(thread, _) => {
+                let event = Event::alone(Mark::Opened, *thread);
+                Ok(Step::changing(event, *thread, Some(Wait::Nothing)))
+            }
             Input::Broke(thread) => {
                 let event = Event::alone(Mark::Broke, *thread);
-                Ok(Step::changing(event, *thread, Wait::Nothing))
+                Ok(Step::changing(event, *thread, None))
             }
             Input::Called(number, caller, call) => self.called(*number, *caller, call.call()),
             Input::Exreg(thread, other, _) => Ok(Step::of(Event {
@@ -76,7 +79,7 @@ impl Notes {
         };
         self.calls.insert(number, open)?;
         let event = Event::at(mark_of_call(&shown_as), &open);
-        Ok(Step::changing(event, caller, open.wait))
+        Ok(Step::changing(event, caller, Some(open.wait)))
     }
 
     fn output(&mut self, output: Output) -> Step {
@@ -158,7 +161,7 @@ impl Notes {
             received,
             ..Event::at(mark_of(error), &call)
         };
-        Step::changing(event, call.caller, Wait::Nothing)
+        Step::changing(event, call.caller, Some(Wait::Nothing))
     }
 
     // What is noted of an open call from then on.
@@ -173,11 +176,11 @@ impl Notes {
 fn pair_step(event: Event, wait: Wait) -> Step {
     let sender = Change {
         thread: event.from,
-        wait,
+        wait: Some(wait),
     };
     let receiver = Change {
         thread: event.to,
-        wait: Wait::Nothing,
+        wait: Some(Wait::Nothing),
     };
     Step {
         event: Some(event),

@@ -12,8 +12,6 @@ pub struct Column {
     pub thread: ThreadId,
     /// Its space, where an entry opens it.
     pub space: Option<u64>,
-    /// Whether it is opened by one of the rows; else its line begins above the first.
-    pub is_opened: bool,
 }
 
 /// What the entry of a row says, beside its threads and its call.
@@ -60,7 +58,7 @@ pub struct Row {
     pub received: u64,
 }
 
-/// What the thread of a column waits for from a row on.
+/// Whether the thread of a column lives, and what it waits for, from a row on.
 #[derive(Clone, Copy)]
 pub struct Turn {
     /// The row.
@@ -69,8 +67,8 @@ pub struct Turn {
     pub is_above: bool,
     /// The column.
     pub column: usize,
-    /// What its thread waits for.
-    pub wait: Wait,
+    /// What its thread waits for; None: it does not live.
+    pub wait: Option<Wait>,
 }
 
 /// What a chart shows, before it is drawn.
@@ -82,7 +80,7 @@ pub struct Scene {
     pub rows: Vec<Row>,
     /// The calls that rows are about.
     pub calls: Vec<ToldCall>,
-    /// What threads wait for, in the order of the rows.
+    /// Which threads live, and what they wait for, in the order of the rows.
     pub turns: Vec<Turn>,
     /// Which rows come again.
     pub folds: Vec<Fold>,

@@ -43,7 +43,7 @@ fn has_mark(scene: &Scene, mark: Mark) -> bool {
 
 fn has_wait(scene: &Scene, wait: Wait) -> bool {
     for turn in &scene.turns {
-        if turn.wait == wait {
+        if turn.wait == Some(wait) {
             return true;
         }
     }

@@ -5,7 +5,7 @@ use crate::ink::Ink;
 use crate::layout::Layout;
 use crate::lines::Line;
 use crate::marks::draw_mark;
-use crate::strands::{Strand, end_strands, mark_strand, strands_of, turn_strands};
+use crate::strands::{Strand, end_strands, strands_of, turn_strands};
 use crate::text::{end_of, first_moment, last_row, moment_behind, put_copies};
 use crate::words::label_of;
 use l4sh_chart::{Column, Fold, Place, Row, Scene, turns_upto};
@@ -53,7 +53,7 @@ impl Sheet {
         top: u64,
         times: Times,
     ) -> Result<Sheet, AllocError> {
-        let strands = strands_of(alloc, &scene.columns, top)?;
+        let strands = strands_of(alloc, scene.columns.len(), top)?;
         Ok(Sheet {
             alloc,
             layout,
@@ -165,7 +165,6 @@ impl Sheet {
         self.label(scene, row, middle.saturating_add(4));
         self.mark(row, middle);
         self.over.put("</g>\n");
-        self.live(row, middle);
         self.turn(scene, Place::at(place), middle);
         self.y = top.saturating_add(ROW);
     }
@@ -223,18 +222,6 @@ impl Sheet {
         }
     }
 
-    // A thread begins to live, or ends.
-    fn live(&mut self, row: &Row, middle: u64) {
-        mark_strand(
-            &mut self.under,
-            &mut self.strands,
-            &self.layout,
-            row.from,
-            row.mark,
-            middle,
-        );
-    }
-
     // How often the rows above it come, and a line beside them.
     fn copies(&mut self, scene: &Scene, fold: &Fold) {
         let middle = self.y.saturating_add(ROW / 2);
@@ -270,7 +257,7 @@ impl Sheet {
         self.over.end_words();
     }
 
-    // What threads wait for behind a place, from a height on.
+    // Which threads live, and what they wait for, behind a place, from a height on.
     fn turn(&mut self, scene: &Scene, place: Place, y: u64) {
         let turns = turns_upto(&scene.turns, self.next, place);
         turn_strands(&mut self.under, &mut self.strands, &self.layout, turns, y);

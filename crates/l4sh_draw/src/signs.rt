@@ -28,13 +28,11 @@ fn put_lane(
 }
 
 fn lane_sign(lane: Lane) -> &'static str {
-    if !lane.lives {
-        return " ";
-    }
-    match lane.wait {
-        Wait::Nothing => "|",
-        Wait::Receives => ":",
-        Wait::Sends => "H",
+    match lane {
+        None => " ",
+        Some(Wait::Nothing) => "|",
+        Some(Wait::Receives) => ":",
+        Some(Wait::Sends) => "H",
     }
 }
 

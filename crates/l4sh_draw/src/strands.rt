@@ -1,6 +1,6 @@
 use crate::ink::Ink;
 use crate::layout::Layout;
-use l4sh_chart::{Column, Mark, Turn, Wait};
+use l4sh_chart::{Turn, Wait};
 use std::alloc::{AllocError, Global};
 
 /// The life line of a thread, as far as it is not drawn yet.
@@ -14,16 +14,16 @@ pub(crate) struct Strand {
     pub(crate) since: u64,
 }
 
-/// Life lines from a height on, of threads that are opened by a row or live from the begin.
+/// Life lines from a height on, of so many threads, of which none lives.
 pub(crate) fn strands_of(
     alloc: Global,
-    columns: &[Column],
+    columns: usize,
     top: u64,
 ) -> Result<Vec<Strand>, AllocError> {
     let mut strands = Vec::new(alloc);
-    for column in columns {
+    for _ in 0..columns {
         strands.push(Strand {
-            lives: if column.is_opened { None } else { Some(top) },
+            lives: None,
             wait: Wait::Nothing,
             since: top,
         })?;
@@ -31,7 +31,7 @@ pub(crate) fn strands_of(
     Ok(strands)
 }
 
-/// What threads wait for from these turns on, at a height.
+/// Which threads live, and what they wait for, from these turns on, at a height.
 pub(crate) fn turn_strands(
     ink: &mut Ink,
     strands: &mut [Strand],
@@ -62,20 +62,6 @@ pub(crate) fn end_strands(
     }
 }
 
-/// The thread of a column has this mark at a height: it may begin to live, or end.
-pub(crate) fn mark_strand(
-    ink: &mut Ink,
-    strands: &mut [Strand],
-    layout: &Layout,
-    column: usize,
-    mark: Mark,
-    y: u64,
-) {
-    if let Some(strand) = strands.get_mut(column) {
-        strand.live(ink, mark, layout.middle(column), y);
-    }
-}
-
 impl Strand {
     // Draws it down to a height, from which on the rest is to be drawn.
     fn draw(&mut self, ink: &mut Ink, x: u64, bottom: u64) {
@@ -86,25 +72,29 @@ impl Strand {
         self.draw_wait(ink, x, bottom);
     }
 
-    // The thread begins to live at a height, or ends there, where the mark says so.
-    fn live(&mut self, ink: &mut Ink, mark: Mark, x: u64, y: u64) {
-        match mark {
-            Mark::Opened => self.lives = Some(y),
-            Mark::Broke => {
-                self.draw(ink, x, y);
-                self.lives = None;
-            }
-            _ => {}
+    // From this height on it lives and waits for that, or does not live.
+    fn turn(&mut self, ink: &mut Ink, x: u64, y: u64, wait: Option<Wait>) {
+        match wait {
+            Some(wait) => self.live(ink, x, y, wait),
+            None => self.end(ink, x, y),
         }
     }
 
-    // From this height on it waits for something else.
-    fn turn(&mut self, ink: &mut Ink, x: u64, y: u64, wait: Wait) {
+    fn live(&mut self, ink: &mut Ink, x: u64, y: u64, wait: Wait) {
+        if self.lives.is_none() {
+            self.lives = Some(y);
+        }
         if wait != self.wait {
             self.draw_wait(ink, x, y);
             self.wait = wait;
             self.since = y;
         }
+    }
+
+    fn end(&mut self, ink: &mut Ink, x: u64, y: u64) {
+        self.draw(ink, x, y);
+        self.lives = None;
+        self.wait = Wait::Nothing;
     }
 
     // The rest is drawn from this height on.

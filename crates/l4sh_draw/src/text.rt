@@ -5,9 +5,7 @@ use crate::lines::{Line, pages_of};
 use crate::signs::{put, put_arrow, put_lanes, sign_of};
 use crate::words::{put_label, put_waits_after};
 use ipc_words::ThreadId;
-use l4sh_chart::{
-    Column, Fold, Lane, Mark, Place, Row, Scene, lanes_of, set_alive, turn_lanes, turns_upto,
-};
+use l4sh_chart::{Column, Fold, Lane, Place, Row, Scene, lanes_of, turn_lanes, turns_upto};
 use l4sh_state::Times;
 use std::alloc::{AllocError, Global};
 
@@ -62,7 +60,7 @@ fn draw_lines(
     times: Times,
 ) -> Result<(), AllocError> {
     let lane = lane_width(alloc, &scene.columns, width)?;
-    let lanes = lanes_of(alloc, &scene.columns)?;
+    let lanes = lanes_of(alloc, scene.columns.len())?;
     let mut drawing = Drawing {
         alloc,
         lanes,
@@ -181,9 +179,6 @@ impl Drawing {
     // The number of an entry, its moment, the lanes with its mark, and what it says.
     fn row(&mut self, ink: &mut Ink, scene: &Scene, place: usize, row: &Row) {
         self.turn(scene, Place::above(place));
-        if row.mark == Mark::Opened {
-            set_alive(&mut self.lanes, row.from, true);
-        }
         let mut line = Ink::new(self.alloc);
         put_entry_number(self.alloc, &mut line, row);
         self.put_moment(&mut line, row.moment);
@@ -192,9 +187,6 @@ impl Drawing {
         end_line(ink, &line, self.width);
         drop(line);
         self.turn(scene, Place::at(place));
-        if row.mark == Mark::Broke {
-            set_alive(&mut self.lanes, row.from, false);
-        }
     }
 
     // How often the rows above it come.
@@ -233,7 +225,7 @@ impl Drawing {
         line.put_all(&signs);
     }
 
-    // What threads wait for behind a place.
+    // Which threads live, and what they wait for, behind a place.
     fn turn(&mut self, scene: &Scene, place: Place) {
         let turns = turns_upto(&scene.turns, self.next, place);
         turn_lanes(&mut self.lanes, turns);

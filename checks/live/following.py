@@ -30,7 +30,7 @@ TRIPS = 300
 # A thread that nobody is, and the bytes of a long string.
 NOBODY, BIG = 99 << 32 | 1, 64 << 10
 # How many follow at one time, and how much memory one may cost.
-FOLLOWERS, FOLLOWER_BYTES = 4, 8 << 20
+FOLLOWERS, FOLLOWER_BYTES = 4, 32 << 20
 BLOCKED = "import signal, os, sys; signal.pthread_sigmask(signal.SIG_BLOCK, [signal.SIGTERM]); os.execv(sys.argv[1], sys.argv[1:])"
 
 PART, SLOW = b"l4part 1\n", b"the trace is slow: ask again\n"

@@ -416,6 +416,19 @@ class Aio(unittest.TestCase):
         with Listener([WELCOME, WELCOME, WELCOME]) as there:
             self.assertEqual(asyncio.run(main(there)), [False, False, False])
 
+    def test_a_thread_that_is_connected_stays_so(self):
+        async def main(there):
+            thread = await aio.Thread(there.folder, 2).connect()
+            async with thread:
+                self.assertFalse(thread.is_closed)
+            with self.assertRaises(l4ipc.Closed) as caught:
+                await thread.connect()
+            return str(caught.exception)
+
+        with Listener([WELCOME]) as there:
+            self.assertIn("it stays closed: make another one", asyncio.run(main(there.listens())))
+            self.assertEqual(len(there.kept), 1)
+
     def test_a_thread_that_was_not_connected(self):
         async def main():
             thread = aio.Thread("here", 2)

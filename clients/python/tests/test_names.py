@@ -1,5 +1,6 @@
 """The client of a name server, against answers that a test gives."""
 
+import pickle
 import unittest
 import unittest.mock
 
@@ -82,6 +83,11 @@ class Names(unittest.TestCase):
         with self.assertRaises(names.NoNames):
             asked.lookup("echo")
         self.assertEqual(names.Names(thread, l4ipc.NILTHREAD).lookup("echo"), None)
+
+    def test_an_error_goes_to_another_process(self):
+        for error in (names.Unregistered(ThreadId.of(2, 1), "nobody"), names.Unanswered(ThreadId.of(2, 1), ThreadId.of(9, 1), "nobody")):
+            other = pickle.loads(pickle.dumps(error))
+            self.assertEqual((type(other), str(other), other.name, other.partner), (type(error), str(error), error.name, error.partner))
 
     def test_each_error(self):
         for number in range(1, 7):

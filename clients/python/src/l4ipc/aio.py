@@ -99,9 +99,12 @@ class Thread(Caller):
         return super()._no_call_is_made()
 
     async def connect(self) -> "Thread":
-        """Connects, once."""
-        self._queue = asyncio.Lock()
-        await self._connect(self._place)
+        """Connects, where it is not connected. A closed thread stays closed."""
+        if self._is_closed:
+            raise Closed(f"{self!r}: it stays closed: make another one")
+        if self._connection is None:
+            self._queue = asyncio.Lock()
+            await self._connect(self._place)
         return self
 
     async def __aenter__(self) -> "Thread":

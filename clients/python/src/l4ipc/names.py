@@ -2,7 +2,7 @@
 
 import re
 import time
-from typing import TYPE_CHECKING, Dict, Iterator, List, Optional, Set, Tuple
+from typing import TYPE_CHECKING, Any, Dict, Iterator, List, Optional, Set, Tuple
 
 from . import arguments, protocol, steps
 from .errors import SEND, Circumstances, Closed, IpcError, L4Error, NoPartner, Refused, Timeout
@@ -100,6 +100,9 @@ class Unregistered(NoPartner):
         super().__init__(0x4, of=Circumstances(own))
         self.name = name
 
+    def __reduce__(self) -> Tuple[Any, ...]:
+        return type(self), (self.thread, self.name), self.__dict__  # (for another process)
+
     def _details(self) -> str:
         return f": nobody has registered {arguments.shown(self.name)}"
 
@@ -113,6 +116,9 @@ class Unanswered(Timeout):
     def __init__(self, own: ThreadId, server: ThreadId, name: str) -> None:
         super().__init__(0x2, of=Circumstances(own, server))
         self.name = name
+
+    def __reduce__(self) -> Tuple[Any, ...]:
+        return type(self), (self.thread, self.partner, self.name), self.__dict__
 
     def _details(self) -> str:
         return f": the name server did not answer who has the name {arguments.shown(self.name)}"

@@ -90,8 +90,7 @@ impl<P: PortWrite> Trace<P> {
     /// Puts the entries of the history, as they come, until its file is full, or the kernel was
     /// closed and all are put; and notes how many stand. Answers what a further file begins with;
     /// None at the end. Memory may let go of a group of entries once it was put. Where no entry is
-    /// left, all lines are handed on before it waits for the next one. Where more than half as many
-    /// wait as memory may hold, that is told on standard error, once until none was left.
+    /// left, all lines are handed on before it waits for the next one.
     ///
     /// # Errors
     ///

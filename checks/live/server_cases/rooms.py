@@ -21,6 +21,8 @@ MOST_CONNECTIONS = MAX_CONNECTIONS + 1
 TASKS = 12
 # A user whom nobody else is.
 USER = 54_321
+# What is told who would follow a server that has no worker for him, and one without a trace.
+NO_WORKER, NO_TRACE = "no worker is left for one who follows: ask again\n", "no trace: start l4d with --trace, as --trace /dev/null\n"
 # The bytes of a worker's stack, and more addresses than a server takes that was not compiled to find faults of memory.
 STACK, MOST_ADDRESSES = 1 << 18, 1 << 40
 
@@ -186,8 +188,8 @@ def few_tasks():
     for tasks in (TASKS, TASKS + 1):
         for log in ((), ("--log",)):
             said = few_tasks_of(tasks, log, followed)
-    # who asks gets a worker of his own where one is left
-    assert followed == {"no worker is left for one who follows: ask again\n", "no trace: start l4d with --trace, as --trace /dev/null\n"}, followed
+    # of one of the two a worker may be left for who asks
+    assert NO_WORKER in followed and followed <= {NO_WORKER, NO_TRACE}, followed
     return said
 
 
@@ -217,11 +219,14 @@ def asked(folder, word):
         return b"".join(iter(lambda: asker.recv(65_536), b"")).decode()
 
 
-def told_to_followers(folder):
-    """What is answered to those who would follow, one behind the other: the worker of who asked before may not have ended when the next one asks."""
+def told_to_followers(folder, awaited):
+    """What is answered to those who would follow, one behind the other, until one is told what is awaited: the worker of who asked before may not have
+    ended when the next one asks."""
     answers = set()
-    for _ in range(10):
+    for _ in range(20):
         answers.add(asked(folder, "trace follow"))
+        if awaited in answers:
+            break
         time.sleep(0.2)
     return answers
 
@@ -242,12 +247,14 @@ def few_tasks_of(tasks, log, followed):
             # with no worker of their own they are answered, too, one behind the other
             for word, answer in 3 * [("state", "1.1  space 1  "), ("counters", "connections ")]:
                 assert answer in asked(folder, word), (word, asked(folder, word))
-            followed |= told_to_followers(folder)
+            followed |= told_to_followers(folder, NO_WORKER)
             for client in clients[1:]:
                 client.line.sendall(BYE)
             time.sleep(0.3)
             again = Client(f"{folder}/space1", 100)
             pair_works((clients[0], again))
+            # who asks gets a worker of his own where one is left
+            assert NO_TRACE in told_to_followers(folder, NO_TRACE)
         finally:
             process.kill()
         err = process.communicate()[1].decode()

@@ -193,6 +193,8 @@ def check_errors(programs, l4d, room):
         want(two.ask(f"connect_wait 200000 {server.dir} 1 1 2"), rf"^REFUSED K2: {MEANINGS['K2']}; end the program that has it, or take another number \(number 1 at {server.dir}/space1\)$")
         for number, said in ((1024, "REFUSED K1"), (65536, "K1")):
             want(two.ask(f"connect {server.dir} 1 {number} 1"), rf"^{said}: {MEANINGS['K1']} \(number {number} at {server.dir}/space1\)$")
+        for space in (0, 65):
+            want(two.ask(f"connect {server.dir} {space} 2 1"), rf"^K1: {MEANINGS['K1']} \(space {space}\)$")
         two.tell(f"connect_wait 20000000 {server.dir} 1 1 2")
         time.sleep(0.1)
         one.ask("disconnect")

@@ -326,6 +326,11 @@ static int connect_until(const char *dir, unsigned space, unsigned number, unsig
 		return l4_refuse_null(thread, "l4_connect: dir");
 	if (version < FIRST_WIRE_VERSION || version > LAST_WIRE_VERSION)
 		return l4_refuse(thread, FOUND_HERE, 'C', C_NO_VERSION);
+	if (space < 1 || space > MAX_SPACE) {
+		(void) l4_refuse(thread, FOUND_HERE, 'K', K_BAD_NUMBER);
+		(void) snprintf(thread->last.about, sizeof thread->last.about, "space %u", space);
+		return -1;
+	}
 	length = snprintf(address.sun_path, sizeof address.sun_path, "%s/space%u", dir, space);
 	if (length < 0 || (size_t) length >= sizeof address.sun_path)
 		return l4_refuse(thread, FOUND_HERE, 'C', C_NO_PATH);

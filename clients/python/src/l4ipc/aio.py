@@ -607,6 +607,8 @@ async def _greet(connection: socket.socket, place: connecting.Place, end: Option
             break
         except BlockingIOError:  # the server takes no connection at the moment, and such a socket has nothing to wait on
             await asyncio.sleep(pause)
+    else:
+        raise socket.timeout
     try:
         await loop.sock_sendall(connection, place.hello())
     except (BrokenPipeError, ConnectionResetError):

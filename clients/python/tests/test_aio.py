@@ -365,6 +365,24 @@ class Aio(unittest.TestCase):
         came, frames = with_a_canceller(does)
         self.assertEqual((came, frames[2][5:13]), ([(7, 8)], FIRST.to_bytes(8, "big")))
 
+    def test_a_late_answer_of_a_name_server_is_no_request(self):
+        late, requests = outcome(1, ThreadId(IN_255), words=(NILTHREAD,)), []
+
+        async def main(there):
+            async with aio.Thread(there.listens().folder, 1) as canceller, aio.Thread(there.folder, 2, canceller=canceller) as thread:
+                looking = asyncio.ensure_future(aio.Names(thread).lookup("echo"))
+                await asyncio.sleep(0.05)  # the name server is live, and has the request
+                asyncio.get_running_loop().call_later(0.01, there.kept[1].sendall, failed(0x7))
+                looking.cancel()
+                self.assertTrue(await cancelled(looking) and not thread.is_closed)
+                there.kept[1].sendall(late + WORDS + FAULT)
+                with self.assertRaises(l4ipc.Fault):
+                    await thread.serve(lambda request: requests.append(request.sender))
+
+        with Listener([WELCOME + 20 * EXREGR, WELCOME + failed(0x3)]) as there:
+            asyncio.run(main(there))
+        self.assertEqual(requests, [FIRST])
+
     def test_what_is_held_goes_into_the_buffers_that_it_fits(self):
         async def gets(thread, server, buffers):
             memory = bytearray(3)

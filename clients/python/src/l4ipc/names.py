@@ -220,6 +220,10 @@ class Book:
                 if error.delivered:
                     self._thread.kept.owing.add(server)
                 raise
+            except BaseException as error:
+                if server and not isinstance(error, Exception):  # a cancel of coroutines: whether it was delivered is not known
+                    self._thread.kept.owing.add(server)
+                raise
         if answer.label:
             raise NameFault(answer.label, ThreadId(answer.words[0] if answer.words else 0), name.decode("utf-8"))
         if len(answer.words) != 1:

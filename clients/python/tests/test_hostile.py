@@ -53,6 +53,16 @@ def tried(does, answer, version=1):
 
 
 class Hostile(unittest.TestCase):
+    def test_an_answer_of_the_other_version(self):
+        for version, answer in ((1, in_version_2(WORDS)), (2, WORDS)):
+            own, server = socket.socketpair()
+            with own, server, self.subTest(version=version):
+                server.sendall(WELCOME)
+                thread = l4ipc.Thread.over(own, 2, version)
+                server.sendall(answer)
+                with self.assertRaises(l4ipc.BadFrame):
+                    thread.call(FIRST, Message(0, [1]))
+
     def test_each_answer_as_it_is(self):
         expected = {
             "a string": l4ipc.Received, "words": l4ipc.Received, "an end": type(None), "a failure": l4ipc.NoPartner,

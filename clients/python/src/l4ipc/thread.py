@@ -350,7 +350,7 @@ class Thread(Caller):
         if frame is None:
             call = calls.call(self.id, to, from_specifier, message, times, buffers)
             return self._result(call, self._ask(call.frame, frames.Outcome))
-        came = self._over(frame, True)
+        came = self._over(frame, self.version == 1)
         if came.__class__ is Received:
             return came  # type: ignore[return-value]
         call = calls.Call(self.id, to, from_specifier, message, NO_BUFFERS, frame)

@@ -418,9 +418,31 @@ def check_unsendable(programs, l4d, room):
         nobody = "l4_serve: 2.1 got no answer: send phase to 2.1: timeout (e=1, offset 0)"
         assert lines[0] == f"l4_serve: 2.1 gets L4_FUNCTION_FAILED in place of an answer: F4: {MEANINGS['F4']}" and nobody in lines[1:], lines
         told_of_many(serving, asker, told, nobody)
+        rows = answers_that_are_late(serving, asker, Say(programs["say"], server.dir, 3))
         serving.end()
         asker.end()
-        return len(labels) + 6
+        return len(labels) + 6 + rows
+
+
+def answers_that_are_late(serving, asker, late):
+    """The answer to a call that a server gave up is no request, and what its sender asks then is one; neither is what says that a function failed."""
+    assert serving.connect(1)[0] == 0
+    serving.tell("serve")
+    late.tell_ipc(source=ANY)
+    got = asker.ipc(to=serving.thread, source=serving.thread, rcv=0x2BE8, label=4)
+    assert got[:2] == (5 << 16, serving.thread), got
+    assert late.hear_ipc()[1] == serving.thread
+    nothing = 0x3
+    for who, label in ((late, 7), (asker, FUNCTION_FAILED)):
+        assert who.code(to=serving.thread, label=label) == 0
+        assert who.code(source=serving.thread, rcv=0x2864) == nothing
+    for who in (late, asker):
+        got = who.ipc(to=serving.thread, source=serving.thread, rcv=0x2BE8, label=0)
+        assert got[:2] == (5 << 16, serving.thread), got
+    assert asker.code(to=serving.thread, label=9) == 0
+    assert serving.hear()[0] == "0 0"
+    late.end()
+    return 6
 
 
 def told_of_many(serving, asker, told, line):

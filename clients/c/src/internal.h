@@ -21,6 +21,8 @@ enum {
 	HEAD_BYTES = LENGTH_BYTES + 1,
 	/* so many names of a thread l4_serve registers again */
 	KEPT_NAMES = 8,
+	/* and of so many partners it knows that they owe an answer */
+	MAX_OWING = 16,
 };
 
 /* Bits of tags and descriptors. */
@@ -100,8 +102,13 @@ struct kept {
 	/* the last time failed, which is told once; and this is being told now */
 	bool has_failed;
 	bool is_told;
-	/* a name server whose answer was not waited for: it may come to any receive. L4_nilthread for none */
-	L4_ThreadId_t owing;
+};
+
+/* The partners of calls that were given up once they were delivered, the last ones: their answers may come to any receive.
+ * L4_nilthread stands where there is none. */
+struct owing {
+	L4_ThreadId_t threads[MAX_OWING];
+	size_t next;
 };
 
 /* A thread of the process: its virtual registers and its connection. */
@@ -139,6 +146,7 @@ struct thread {
 	/* whether the program chose it: then no other one is asked */
 	bool has_chosen_names;
 	struct kept kept;
+	struct owing owing;
 	char text[512];
 	/* the path that was connected to, and the name that was asked for */
 	char path[MAX_PATH_BYTES + 1];
@@ -218,6 +226,9 @@ bool l4_can_write(const void *memory, L4_Word_t length);
 
 /* request.c: makes the frame of a call from the registers, and sends it. 0, or -1 where it is refused or the connection lost. */
 int l4_ask(struct thread *thread, struct phases *phases, L4_Word_t timeouts);
+
+/* ipc.c: whether this thread owed an answer. It owes none from then on. */
+bool l4_owed(struct owing *owing, L4_ThreadId_t from);
 
 /* outcome.c: reads the outcome of a call. 0, with who sent at *from, or -1 where it is an error or the connection is lost. */
 int l4_hear(struct thread *thread, const struct phases *phases, L4_ThreadId_t *from);

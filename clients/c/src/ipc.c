@@ -47,12 +47,48 @@ static int begin(struct thread *thread, L4_ThreadId_t to, L4_ThreadId_t from, L4
 	return status;
 }
 
+bool l4_owed(struct owing *owing, L4_ThreadId_t from)
+{
+	bool is_owed = false;
+
+	for (size_t i = 0; i < MAX_OWING && !L4_IsNilThread(from); i++)
+		if (L4_IsThreadEqual(owing->threads[i], from)) {
+			owing->threads[i] = L4_nilthread;
+			is_owed = true;
+		}
+	return is_owed;
+}
+
+/* Whether a call was given up once it was delivered: its answer is still to come. */
+static bool is_given_up(const struct failure *failure)
+{
+	unsigned error = failure->code >> 1 & 7;
+
+	return failure->source == OUTCOME && failure->code & 1 && (error == E_TIMEOUT || error == E_CANCELLED);
+}
+
+/* Keeps whether the partner of a call owes its answer. One that has answered has done with what it was asked before. */
+static void keep_owing(struct thread *thread, int status)
+{
+	const struct phases *phases = &thread->open;
+	struct owing *owing = &thread->owing;
+
+	if (!phases->sends || !L4_IsThreadEqual(phases->to, phases->from) || (status < 0 && !is_given_up(&thread->last)))
+		return;
+	(void) l4_owed(owing, phases->to);
+	if (status == 0)
+		return;
+	owing->threads[owing->next] = phases->to;
+	owing->next = (owing->next + 1) % MAX_OWING;
+}
+
 /* Hears the outcome of the call that was sent. */
 static L4_MsgTag_t end(struct thread *thread, L4_ThreadId_t *from)
 {
 	int status = l4_hear(thread, &thread->open, from);
 
 	thread->is_calling = thread->is_begun = false;
+	keep_owing(thread, status);
 	return status < 0 ? failed(thread, &thread->open) : (L4_MsgTag_t) { thread->mr[0] };
 }
 

@@ -88,11 +88,8 @@ static int call(struct thread *thread, const struct request *request, struct ans
 	L4_MsgAppendSimpleStringItem(&msg, L4_StringItem((int) strlen(request->name), (char *) request->name));
 	L4_MsgLoad(&msg);
 	tag = L4_Call_Timeouts(thread->name_server, request->patience, request->patience);
-	if (L4_IpcFailed(tag)) {
-		if (thread->last.source == OUTCOME && L4_ErrorCode() & 1)
-			thread->kept.owing = thread->name_server;
+	if (L4_IpcFailed(tag))
 		return -1;
-	}
 	L4_MsgStore(tag, &msg);
 	answer->error = L4_Label(tag);
 	answer->thread.raw = L4_UntypedWords(tag) > 0 ? L4_MsgWord(&msg, 0) : 0;

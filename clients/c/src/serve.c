@@ -155,13 +155,11 @@ static void keep_names(struct thread *thread, struct teller *teller)
 	kept->is_told = false;
 }
 
-/* Whether this is the answer that a name server owed: who answered it would be answered without an end. */
-static bool is_owed(struct kept *kept, L4_ThreadId_t from)
+/* Whether this is no request: an answer for which its call did not wait, or one that says that another server's function failed.
+ * Two servers that answered those of each other would do so without an end. */
+static bool is_answer(struct thread *thread, L4_ThreadId_t from, L4_MsgTag_t tag)
 {
-	if (!L4_IsThreadEqual(kept->owing, from))
-		return false;
-	kept->owing = L4_nilthread;
-	return true;
+	return l4_owed(&thread->owing, from) || L4_Label(tag) == L4_FUNCTION_FAILED;
 }
 
 /* Whether an answer was not sent since it is none: what the function loaded is at fault. */
@@ -211,7 +209,7 @@ static int serve(struct thread *thread, l4_answer_t answer, struct teller *telle
 			keep_names(thread, teller);
 		} else {
 			thread->tells_failure = false;
-			to = is_owed(&thread->kept, from) ? L4_nilthread : have_answered(thread, answer, from, tag, teller->data);
+			to = is_answer(thread, from, tag) ? L4_nilthread : have_answered(thread, answer, from, tag, teller->data);
 		}
 	} while (thread->is_connected);
 	/* the functions ended the connection, or a call of theirs lost it */

@@ -146,6 +146,7 @@ static void begin(struct thread *thread, unsigned version)
 	thread->name_server = L4_nilthread;
 	thread->has_chosen_names = false;
 	thread->kept = (struct kept) { 0 };
+	thread->owing = (struct owing) { 0 };
 	thread->error_code = 0;
 }
 

@@ -411,7 +411,7 @@ static void list(const char *after)
 }
 
 /* Answers an empty message of label 5, and by the label of the request what cannot be sent: a string at no address, one
- * more word than there can be, a register that is not there. */
+ * more word than there can be, a register that is not there. With label 4 it calls 3.1 before, and gives that up. */
 static L4_Bool_t answer_badly(L4_ThreadId_t from, L4_MsgTag_t tag, void *troubles)
 {
 	static const L4_Word_t list[2 * MOST];
@@ -420,6 +420,8 @@ static L4_Bool_t answer_badly(L4_ThreadId_t from, L4_MsgTag_t tag, void *trouble
 	(void) from, (void) troubles;
 	L4_MsgClear(&msg);
 	L4_Set_MsgLabel(&msg, 5);
+	if (L4_Label(tag) == 4)
+		(void) L4_Call_Timeouts(L4_GlobalId(3, 1), L4_Never, L4_TimePeriod(1000));
 	if (L4_Label(tag) == 1)
 		L4_MsgAppendSimpleStringItem(&msg, L4_StringItem(1, NULL));
 	if (L4_Label(tag) == 2)

@@ -3,6 +3,7 @@
 import asyncio
 import contextlib
 import socket
+import struct
 import threading
 import time
 import unittest
@@ -593,7 +594,11 @@ class Aio(unittest.TestCase):
 
         for knows in (hasattr(asyncio.Task, "cancelling"), False):
             with self.subTest(knows=knows), tasks_that_know(knows):
-                self.assertEqual(scripted(WORDS, does)[0], (True, ["ended"]))
+                came, frames = scripted(WORDS + DONE, does)
+                self.assertEqual(came, (True, ["ended"]))
+                # who has asked is told so, and no receive phase follows
+                _, to, from_specifier, timeouts, _, tag = struct.unpack_from(">BQQIQQ", frames[2], 4)
+                self.assertEqual((to, from_specifier, timeouts >> 16, tag >> 16), (FIRST, NILTHREAD, 0x400, FUNCTION_FAILED))
 
     def test_names(self):
         found = failed(0x3) + outcome(1, IN_255, words=(FIRST,))

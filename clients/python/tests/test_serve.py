@@ -7,11 +7,11 @@ import l4ipc
 from l4ipc import FUNCTION_FAILED, Message, Received, ThreadId
 from l4ipc.names import Names
 
-from .scripted import REFUSED, STRING, WORDS, failed, outcome, said, scripted
+from .scripted import DONE, REFUSED, STRING, WORDS, failed, outcome, said, scripted
 
 # An IPC frame's place of the word `to`, of its tag and of its first word.
 TO, TAG, FIRST_WORD = slice(5, 13), slice(33, 41), slice(50, 58)
-NAMES = ThreadId.of(255, 1)
+NAMES, FIRST, OTHER = ThreadId.of(255, 1), ThreadId.of(1, 1), ThreadId.of(3, 1)
 
 
 def served(answers, function, **more):
@@ -160,6 +160,77 @@ class Serve(unittest.TestCase):
         # (the one answer that was owed is dropped; a message of that thread behind it is a request as any other)
         self.assertEqual(came, [1 << 32 | 1, NAMES])
         self.assertEqual([message_of(frame)[0] for frame in said(server)[3:]], [0, 0, 1 << 32 | 1, NAMES])
+        thread.close()
+        server.close()
+
+    def test_a_late_answer_is_no_request(self):
+        late, came = outcome(0x50001, OTHER, words=(2,)), []
+
+        def gives_up(request):
+            came.append((request.sender, request.label))
+            if len(came) == 1:
+                with self.assertRaises(l4ipc.Timeout):
+                    thread.call(OTHER, Message(), receive_timeout=1)
+
+        # the call of the first request is given up; then its answer comes, and a request of that thread
+        thread, server = scripted(WORDS + failed(0x3) + late + late)
+        thread.serve(gives_up, tell=lambda error, request: None)
+        self.assertEqual(came, [(FIRST, 3), (OTHER, 5)])
+        thread.close()
+        server.close()
+
+    def test_who_was_called_again_owes_no_more(self):
+        late, came = outcome(0x50001, OTHER, words=(2,)), []
+
+        def calls(request):
+            came.append((request.sender, request.label))
+            if len(came) == 1:
+                with self.assertRaises(l4ipc.Cancelled):
+                    thread.call(OTHER)
+                does(thread)
+
+        for does, answer, heard in ((lambda it: it.call(OTHER), late, 1), (lambda it: it.call(OTHER, buffers=[8]), late, 1), (lambda it: None, b"", 0)):
+            came.clear()
+            thread, server = scripted(WORDS + failed(0x7) + answer + late)
+            thread.serve(calls, tell=lambda error, request: None)
+            self.assertEqual(came, [(FIRST, 3)] + heard * [(OTHER, 5)])
+            thread.close()
+            server.close()
+
+    def test_what_fails_in_the_send_phase_is_owed_no_answer(self):
+        came = []
+
+        def gives_up(request):
+            came.append(request.sender)
+            if len(came) == 1:
+                with self.assertRaises(l4ipc.Timeout):
+                    thread.call(OTHER, Message(), send_timeout=1)
+
+        thread, server = scripted(WORDS + failed(0x2) + outcome(1, OTHER, words=(2,)))
+        thread.serve(gives_up, tell=lambda error, request: None)
+        self.assertEqual(came, [FIRST, OTHER])
+        thread.close()
+        server.close()
+
+    def test_what_says_that_a_function_failed_is_no_request(self):
+        came = []
+        thread, server = scripted(outcome(FUNCTION_FAILED << 16, OTHER) + WORDS)
+        thread.serve(lambda request: came.append(request.sender) or Message(), tell=lambda error, request: None)
+        self.assertEqual(came, [FIRST])
+        # nobody is answered but who asked
+        self.assertEqual([message_of(frame)[0] for frame in said(server)[1:]], [0, 0, FIRST])
+        thread.close()
+        server.close()
+
+    def test_an_interrupted_function_is_a_failed_one(self):
+        def interrupted(request):
+            raise KeyboardInterrupt
+
+        thread, server = scripted(WORDS + DONE)
+        with self.assertRaises(KeyboardInterrupt):
+            thread.serve(interrupted)
+        to, label = message_of(said(server)[2])[:2]
+        self.assertEqual((to, label), (FIRST, FUNCTION_FAILED))
         thread.close()
         server.close()
 

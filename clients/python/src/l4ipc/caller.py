@@ -7,7 +7,7 @@ from typing import Optional, Union
 
 from . import arguments, calls, frames
 from .connecting import Place
-from .errors import Closed
+from .errors import Cancelled, Closed, Timeout
 from .message import Message, Received
 from .names import Book, Kept, is_name, name_bytes
 from .protocol import NOTHING_TOLD, Told
@@ -119,7 +119,19 @@ class Caller:
     def _read(self, call: calls.Call, outcome: frames.Outcome) -> Optional[Received]:
         """What a call has brought."""
         self._tells(outcome.told)
-        return call.result(outcome)
+        try:
+            received = call.result(outcome)
+        except (Timeout, Cancelled) as error:
+            if error.delivered and error.partner == call.to:
+                self.kept.owing.add(error.partner)  # its answer may come to any receive
+            raise
+        if self.kept.owing and call.from_specifier == call.to:
+            self._has_answered(call.to)
+        return received
+
+    def _has_answered(self, partner: int) -> None:
+        """A call of this partner was answered: what it was asked before it has done with."""
+        self.kept.owing.discard(ThreadId(partner))
 
     def _tells(self, told: Told) -> None:
         """What was told of the last call."""

@@ -126,7 +126,7 @@ class Unanswered(Timeout):
 
 class Kept:
     """The names that a thread has registered for itself, to be registered again, the threads that it has found by their names, the name server that was
-    chosen for it, and those that owe it the answer to a request for which it waits no longer."""
+    chosen for it, and those that owe it the answer to a call for which it waits no longer."""
 
     def __init__(self) -> None:
         self.names: Dict[str, None] = {}
@@ -216,14 +216,6 @@ class Book:
                     raise Closed(str(error)) from None
                 first, has_ended = 1, True
                 yield Ready()
-            except IpcError as error:
-                if error.delivered:
-                    self._thread.kept.owing.add(server)
-                raise
-            except BaseException as error:
-                if server and not isinstance(error, Exception):  # a cancel of coroutines: whether it was delivered is not known
-                    self._thread.kept.owing.add(server)
-                raise
         if answer.label:
             raise NameFault(answer.label, ThreadId(answer.words[0] if answer.words else 0), name.decode("utf-8"))
         if len(answer.words) != 1:

@@ -1,6 +1,7 @@
 """The loop of a server: it answers each message, tells what it could not answer, and goes on."""
 
 import logging
+from contextlib import suppress
 from inspect import iscoroutinefunction
 from typing import TYPE_CHECKING, Callable, Optional, Sequence
 
@@ -104,9 +105,7 @@ class Loop:
                     yield Pause(pause)
                 continue
             self.is_refused = False
-            if kept.owing and request.sender in kept.owing:
-                # a name server's answer, for which its call did not wait: who answered that would be answered without an end
-                kept.owing.remove(request.sender)
+            if self.is_answer(request):
                 continue
             self.request, self.life = request, self.thread.lives
             try:
@@ -114,6 +113,21 @@ class Loop:
             except Exception as error:  # whatever the function does, the next client is served
                 self.tell(error, request)
                 self.answer = _FAILED
+            except GeneratorExit:
+                raise
+            except BaseException:  # the server is cancelled or interrupted, and who asked waits for no answer of it
+                with suppress(L4Error):
+                    yield steps.Ipc(request.sender, NILTHREAD, _FAILED, _ANSWER_AT_ONCE, (), True)
+                raise
+
+    def is_answer(self, message: Received) -> bool:
+        """Whether a message is no request: an answer for which its call did not wait, or one that says that another server's function failed. Two
+        servers that answered those of each other would do so without an end."""
+        owing = self.thread.kept.owing
+        if message.sender in owing:
+            owing.remove(message.sender)
+            return True
+        return message.label == FUNCTION_FAILED
 
     def failed(self, error: Exception, answered: Optional[Received]) -> float:
         """Tells that a call failed; how many seconds to wait before the next one. What does not pass is raised."""

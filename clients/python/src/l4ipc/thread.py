@@ -352,6 +352,8 @@ class Thread(Caller):
             return self._result(call, self._ask(call.frame, frames.Outcome))
         came = self._over(frame, self.version == 1)
         if came.__class__ is Received:
+            if self.kept.owing and from_specifier == to:
+                self._has_answered(to)
             return came  # type: ignore[return-value]
         call = calls.Call(self.id, to, from_specifier, message, NO_BUFFERS, frame)
         return self._result(call, self._of_kind(came, frames.Outcome))

@@ -10,6 +10,7 @@ import socket
 import stat
 import subprocess
 import tempfile
+import threading
 import time
 
 from server_cases.running import BLOCKED, PROGRAM, has, run, served
@@ -57,6 +58,24 @@ def paths():
         assert run("--dir", "", "--spaces", "1")[0] == 2
         has(run("--dir", "", "--spaces", "1")[2], "--dir", "folder")
         return "in use, stale, replaced, no socket, no folder, a file as folder, too long, empty"
+
+
+def starts():
+    """One start in a folder at a time looks which paths are stale; where another process keeps a lock on the folder it waits a second, and no longer."""
+    took = []
+    for kept in (0.3, None):
+        folder = tempfile.mkdtemp()
+        held = os.open(folder, os.O_RDONLY)
+        fcntl.flock(held, fcntl.LOCK_EX)
+        if kept:
+            threading.Timer(kept, fcntl.flock, (held, fcntl.LOCK_UN)).start()
+        began = time.monotonic()
+        with served("--replace", folder=folder) as server:
+            took.append(time.monotonic() - began)
+            pair_works((Client(server.path, 1), Client(server.path, 2)))
+        os.close(held)
+    assert took[0] >= 0.3 and took[1] >= 0.9, took
+    return f"after {took[0]:.1f} and {took[1]:.1f} s"
 
 
 def output():

@@ -271,7 +271,7 @@ where
 fn bind_paths<
     C: Naming,
     T: Ledger,
-    R: Files<File = File> + Net<Listener = TcpListener, Stream = TcpStream>,
+    R: Files<File = File> + Net<Listener = TcpListener, Stream = TcpStream> + Clock,
 >(
     server: &Server<'_, C, T, SocketPort, R>,
     options: &ServerOptions<'_>,

@@ -3,16 +3,23 @@ use crate::exit::Exit;
 use ipc_host::{Obstacle, obstacle_at};
 use l4sh_options::{OWNER_ONLY, ServerOptions};
 use std::alloc::{AllocError, Global};
-use std::fs::Permissions;
+use std::fs::{File, Permissions, TryLockError};
 use std::net::{Net, Shutdown};
 use std::os::fd::OwnedFd;
 use std::os::unix::fs::{MetadataExt, PermissionsExt};
 use std::os::unix::net::{UnixListener, UnixStream};
-use std::rt::Files;
-use std::{fs, io};
+use std::rt::{Clock, Files};
+use std::time::Duration;
+use std::{fs, io, thread};
 
 /// How many connections may wait to be accepted, at most: net.core.somaxconn.
 const MOST_WAITING: u16 = 65_535;
+
+/// How often a start looks at most whether another one in its folder is over.
+const LOOKS: u16 = 100;
+
+/// How long it sleeps between two looks, in milliseconds.
+const LOOK: u64 = 10;
 
 /// A path, and the socket that listens there.
 #[derive(Drop)]
@@ -59,13 +66,38 @@ pub struct Listener {
 }
 
 /// Listens on DIR/space1 to DIR/spaceN, each with the permissions that were asked for as soon as it
-/// is bound.
+/// is bound. One start in a folder does so at a time: else it could remove a path as stale that
+/// another one has bound meanwhile.
 ///
 /// # Errors
 ///
 /// CannotListen with the path that cannot be bound and why, one already there too; the paths bound
 /// before it are removed.
-pub fn listen<R: Files + Net>(
+pub fn listen<R: Files<File = File> + Net + Clock>(
+    rt: &R,
+    alloc: Global,
+    options: &ServerOptions<'_>,
+) -> Result<Vec<Listener>, Exit> {
+    let held = hold(rt, options.dir);
+    let listeners = listen_on_all(rt, alloc, options);
+    drop(held);
+    listeners
+}
+
+/// A folder that no other start has. None where it cannot be opened; where another process keeps a
+/// lock on it, it is had after a second nevertheless.
+fn hold<R: Files<File = File> + Clock>(rt: &R, dir: &str) -> Option<File> {
+    let folder = File::open(rt, dir).ok()?;
+    for _ in 0..LOOKS {
+        match folder.try_lock() {
+            Err(TryLockError::WouldBlock) => thread::sleep(rt, Duration::from_millis(LOOK)),
+            _ => break,
+        }
+    }
+    Some(folder)
+}
+
+fn listen_on_all<R: Files + Net>(
     rt: &R,
     alloc: Global,
     options: &ServerOptions<'_>,

@@ -141,12 +141,13 @@ static void tell_of_call(struct thread *thread)
 	errno = is_late ? ETIMEDOUT : EIO;
 }
 
-/* A request, with a buffer for the answer's name in place of the caller's buffers. */
+/* A request, with a buffer for the answer's name in place of the caller's buffers. What the caller has in its registers stays. */
 static int ask(enum label label, const char *name, L4_Time_t patience, struct answer *answer)
 {
 	const struct request request = { label, name, patience };
 	struct thread *thread = &l4_thread;
-	L4_Word_t buffers[BUFFER_REGISTERS];
+	L4_ThreadId_t virtual_sender = thread->virtual_sender;
+	L4_Word_t message[MESSAGE_REGISTERS], buffers[BUFFER_REGISTERS];
 	L4_MsgBuffer_t buffer;
 	int status;
 
@@ -154,12 +155,17 @@ static int ask(enum label label, const char *name, L4_Time_t patience, struct an
 	if (name == NULL || !is_name(name) || (label != LIST && *name == 0))
 		return l4_refuse(thread, FOUND_HERE, 'N', N_BAD_NAME);
 	strcpy(thread->name, name);
+	if (thread->is_calling)
+		return l4_refuse(thread, FOUND_HERE, 'C', C_CALL_IS_OPEN);
+	L4_StoreMRs(0, MESSAGE_REGISTERS, message);
 	L4_StoreBRs(0, BUFFER_REGISTERS, buffers);
 	L4_MsgBufferClear(&buffer);
 	L4_MsgBufferAppendSimpleRcvString(&buffer, L4_StringItem(L4_NAME_BYTES, answer->name));
 	L4_AcceptStrings(L4_StringItemsAcceptor, &buffer);
 	status = call_live(thread, &request, answer);
 	L4_LoadBRs(0, BUFFER_REGISTERS, buffers);
+	L4_LoadMRs(0, MESSAGE_REGISTERS, message);
+	thread->virtual_sender = virtual_sender;
 	if (status < 0 && thread->last.source == OUTCOME)
 		tell_of_call(thread);
 	if (status == 0 && answer->error != 0)

@@ -401,6 +401,23 @@ static void send_put(char *line)
 	print_outcome(L4_Send(L4_GlobalId(9, 1)), L4_nilthread);
 }
 
+/* A look up leaves the message as it is that is loaded. */
+static L4_ThreadId_t look_up(const char *name)
+{
+	const L4_Word_t loaded[] = { 0x70002, 8, 9 };
+	L4_Word_t there[3];
+	L4_ThreadId_t found;
+
+	L4_LoadMRs(0, 3, loaded);
+	L4_Set_VirtualSender(L4_GlobalId(7, 1));
+	found = l4_lookup(name);
+	L4_StoreMRs(0, 3, there);
+	if (memcmp(loaded, there, sizeof loaded) != 0 || L4_ActualSender().raw != L4_GlobalId(7, 1).raw)
+		die("a look up changed registers");
+	L4_Set_VirtualSender(L4_nilthread);
+	return found;
+}
+
 static void list(const char *after)
 {
 	char name[L4_NAME_BYTES + 1] = "-";
@@ -481,7 +498,7 @@ static void run(char *line)
 	else if (strcmp(command, "register") == 0)
 		printf("%d", l4_register(line));
 	else if (strcmp(command, "lookup") == 0)
-		printf("%llx", (unsigned long long) l4_lookup(line).raw);
+		printf("%llx", (unsigned long long) look_up(line).raw);
 	else if (strcmp(command, "list") == 0)
 		list(line);
 	else if (strcmp(command, "name_server") == 0)

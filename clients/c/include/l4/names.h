@@ -1,6 +1,6 @@
 /* The name server of docs/NAMES.md: which thread has a name now. A server that ended and came again has another id, and
- * the same name. These calls are Ipc with thread 255, so they change the message registers and L4_ErrorCode as L4_Call
- * does; the buffer registers stay. */
+ * the same name. These calls are Ipc with thread 255, so they change L4_ErrorCode as L4_Call does. The message and buffer
+ * registers and VirtualSender stay: a message that is loaded can be sent to who was looked up. */
 #ifndef L4_NAMES_H
 #define L4_NAMES_H
 

@@ -1,7 +1,9 @@
 """The loop of a server."""
 
 import threading
+import time
 import unittest
+import unittest.mock
 
 import l4ipc
 from l4ipc import FUNCTION_FAILED, Message, Received, ThreadId
@@ -138,6 +140,25 @@ class Serve(unittest.TestCase):
         self.assertIn("l4ipc.errors.NoPartner: 2.1: send phase to 999.1: non-existing partner", failure)
         self.assertIn("l4ipc: <Thread 2.1>: refused K5", refused)
         self.assertIn("1.1 was not answered: 2.1: send phase to 1.1", unsent)
+
+    def test_what_comes_again_and_again_is_told_once_a_second(self):
+        lines = logged_by(self, 4 * failed(0x9) + 3 * WORDS, lambda request: 1 // 0).output
+        self.assertEqual([sum(text in line for line in lines) for text in ("receive phase from anythread: message overflow", "failed the server's function", "has ended")],
+                         [1, 1, 1])
+        self.assertIn("l4ipc: 3 more of Overflow were left out", lines[-2])
+        self.assertIn("l4ipc: 2 more of ZeroDivisionError were left out", lines[-1])
+        with unittest.mock.patch("l4ipc.serving.QUIET", 0.0):
+            self.assertEqual(len(logged_by(self, 4 * failed(0x9), lambda request: None).output), 5)
+
+        def slow(request):
+            if request.words == (9,):
+                time.sleep(0.06)
+            raise ValueError
+
+        with unittest.mock.patch("l4ipc.serving.QUIET", 0.05):
+            lines = logged_by(self, 2 * WORDS + outcome(1, FIRST, words=(9,)) + WORDS, slow).output
+        told = ["like it" if "l4ipc: 1 more like it were left out" in line else "of" if "1 more of" in line else "a line" for line in lines]
+        self.assertEqual(told[:3], ["a line", "a line", "like it"])
 
     def test_a_coroutine_function(self):
         async def answer(request):

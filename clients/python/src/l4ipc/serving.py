@@ -1,9 +1,10 @@
 """The loop of a server: it answers each message, tells what it could not answer, and goes on."""
 
 import logging
+import time
 from contextlib import suppress
 from inspect import iscoroutinefunction
-from typing import TYPE_CHECKING, Callable, Optional, Sequence
+from typing import TYPE_CHECKING, Callable, Dict, Optional, Sequence, Tuple
 
 from . import arguments, steps
 from .calls import NO_MESSAGE
@@ -26,6 +27,9 @@ FUNCTION_FAILED = MAX_LABEL
 """The label of the empty answer to a message whose function raised an exception: 48 ones."""
 
 _FAILED = Message(FUNCTION_FAILED)
+
+QUIET = 1.0
+"""For how many seconds the logger is told no more of errors of one kind."""
 
 NO_MEMORY, NO_ROOM = 4, 5
 """The refusals K4 and K5, which pass as memory comes free."""
@@ -50,6 +54,36 @@ def log(error: Exception, request: Optional[Received]) -> None:
         _log.error("l4ipc: the message of %s failed the server's function", request.sender, exc_info=error)
 
 
+class _Logger:
+    """Tells by `log`, of errors of one kind one a second, and with the next one how many were left out: no client fills a disk."""
+
+    def __init__(self) -> None:
+        self._quiet: Dict[Tuple[type, bool, bool], Tuple[float, int]] = {}
+
+    def __call__(self, error: Exception, request: Optional[Received]) -> None:
+        if getattr(error, "kept_name", None) is not None:  # (which is told once)
+            return log(error, request)
+        kind, now = (type(error), request is None, isinstance(error, L4Error) and error.is_of_answer), time.monotonic()
+        until, left_out = self._quiet.get(kind, (now, 0))
+        if now < until:
+            self._quiet[kind] = until, left_out + 1
+            return None
+        self._quiet[kind] = now + QUIET, 0
+        log(error, request)
+        return self._tell_left_out(left_out, "like it")
+
+    def end(self) -> None:
+        """Tells what was left out behind the last lines."""
+        for (error, *_), (_, left_out) in self._quiet.items():
+            self._tell_left_out(left_out, f"of {error.__name__}")
+        self._quiet.clear()
+
+    @staticmethod
+    def _tell_left_out(left_out: int, which: str) -> None:
+        if left_out:
+            _log.warning("l4ipc: %d more %s were left out", left_out, which)
+
+
 def check_arguments(function: object, buffers: Sequence[Buffer], tell: object) -> None:
     """Looks at the arguments of a server before the first call, so that what is wrong later is an answer."""
     arguments.function("function", function)
@@ -68,7 +102,9 @@ class Loop:
         if iscoroutinefunction(function) and not awaits:
             raise TypeError(f"function: {arguments.shown(function)} is a coroutine function, which serve of l4ipc.aio takes")
         self.awaits = awaits
-        self.thread, self.function, self.buffers, self.tell = thread, function, buffers, tell
+        self.logger = _Logger()
+        self.tell: Telling = self.logger if tell is log else tell
+        self.thread, self.function, self.buffers = thread, function, buffers
         self.request: Optional[Received] = None
         self.answer: Optional[Message] = None
         self.names_failed = self.is_refused = False
@@ -76,6 +112,13 @@ class Loop:
 
     def run(self) -> Steps[None]:
         """Serves until the connection has ended, and is not made again."""
+        try:
+            yield from self.lives()
+        finally:
+            self.logger.end()
+
+    def lives(self) -> Steps[None]:
+        """The same, over one connection after another."""
         while True:
             try:
                 yield from self.turns()
@@ -168,7 +211,7 @@ class Loop:
         """Registers the names of the server again. That it fails is told once."""
         try:
             yield from self.thread._keeper.keep()
-            if self.names_failed and self.tell is log:
+            if self.names_failed and self.tell is self.logger:
                 _log.warning("l4ipc: registered again: %s", ", ".join(self.thread.kept.names))
             self.names_failed = False
         except Closed:

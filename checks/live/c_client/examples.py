@@ -439,10 +439,17 @@ def answers_that_are_late(serving, asker, late):
     for who in (late, asker):
         got = who.ipc(to=serving.thread, source=serving.thread, rcv=0x2BE8, label=0)
         assert got[:2] == (5 << 16, serving.thread), got
+    # of one who has asked before it may be a request, and is told to have failed
+    late.tell_ipc(source=ANY)
+    assert asker.ipc(to=serving.thread, source=serving.thread, rcv=0x2BE8, label=4)[0] == 5 << 16
+    assert late.hear_ipc()[1] == serving.thread
+    for label in (FUNCTION_FAILED, 5):
+        got = late.ipc(to=serving.thread, source=serving.thread, rcv=0x2BE8, label=0)
+        assert got[:2] == (label << 16, serving.thread), got
     assert asker.code(to=serving.thread, label=9) == 0
     assert serving.hear()[0] == "0 0"
     late.end()
-    return 6
+    return 9
 
 
 def told_of_many(serving, asker, told, line):

@@ -155,11 +155,29 @@ static void keep_names(struct thread *thread, struct teller *teller)
 	kept->is_told = false;
 }
 
-/* Whether this is no request: an answer for which its call did not wait, or one that says that another server's function failed.
- * Two servers that answered those of each other would do so without an end. */
-static bool is_answer(struct thread *thread, L4_ThreadId_t from, L4_MsgTag_t tag)
+/* The version of the last thread of that number whose request was had, 0 for none. */
+static uint32_t *asker(struct thread *thread, L4_ThreadId_t from)
 {
-	return l4_owed(&thread->owing, from) || L4_Label(tag) == L4_FUNCTION_FAILED;
+	return &thread->askers[L4_ThreadNo(from) <= MAX_THREAD_NUMBER ? L4_ThreadNo(from) : 0];
+}
+
+/* Has a message answered, unless it is no request: the answer to a call that was given up, or what says that another server's
+ * function failed. Two servers that answered those of each other would do so without an end. Where its sender has asked before
+ * it may be a request, which is told to have failed. The thread to which the answer goes, L4_nilthread for none. */
+static L4_ThreadId_t take(struct thread *thread, l4_answer_t answer, L4_ThreadId_t from, L4_MsgTag_t tag, void *data)
+{
+	bool is_owed = l4_owed(&thread->owing, from);
+
+	if (L4_Label(tag) == L4_FUNCTION_FAILED)
+		return L4_nilthread;
+	if (!is_owed) {
+		*asker(thread, from) = (uint32_t) L4_Version(from);
+		return have_answered(thread, answer, from, tag, data);
+	}
+	if (*asker(thread, from) != L4_Version(from))
+		return L4_nilthread;
+	thread->mr[0] = L4_FUNCTION_FAILED << 16;
+	return from;
 }
 
 /* Whether an answer was not sent since it is none: what the function loaded is at fault. */
@@ -209,7 +227,7 @@ static int serve(struct thread *thread, l4_answer_t answer, struct teller *telle
 			keep_names(thread, teller);
 		} else {
 			thread->tells_failure = false;
-			to = is_answer(thread, from, tag) ? L4_nilthread : have_answered(thread, answer, from, tag, teller->data);
+			to = take(thread, answer, from, tag, teller->data);
 		}
 	} while (thread->is_connected);
 	/* the functions ended the connection, or a call of theirs lost it */

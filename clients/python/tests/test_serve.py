@@ -200,6 +200,24 @@ class Serve(unittest.TestCase):
         thread.close()
         server.close()
 
+    def test_who_owes_an_answer_and_has_asked_before_is_told_that_it_failed(self):
+        asked, came, told = outcome(0x50001, OTHER, words=(2,)), [], []
+
+        def gives_up(request):
+            came.append((request.sender, request.label))
+            if request.sender == FIRST:
+                with self.assertRaises(l4ipc.Timeout):
+                    thread.call(OTHER, Message(), receive_timeout=1)
+            return Message(9)
+
+        thread, server = scripted(asked + WORDS + failed(0x3) + asked + asked)
+        thread.serve(gives_up, tell=lambda error, request: told.append((str(error), request and request.sender)))
+        self.assertEqual(came, [(OTHER, 5), (FIRST, 3), (OTHER, 5)])
+        self.assertEqual(told[0], ("this may be its answer to a call that was given up", OTHER))
+        self.assertEqual([message_of(frame)[:2] for frame in said(server)[1:]], [(0, 0), (OTHER, 9), (OTHER, 0), (FIRST, 9), (OTHER, FUNCTION_FAILED), (OTHER, 9)])
+        thread.close()
+        server.close()
+
     def test_who_was_called_again_owes_no_more(self):
         late, came = outcome(0x50001, OTHER, words=(2,)), []
 

@@ -126,12 +126,13 @@ class Unanswered(Timeout):
 
 class Kept:
     """The names that a thread has registered for itself, to be registered again, the threads that it has found by their names, the name server that was
-    chosen for it, and those that owe it the answer to a call for which it waits no longer."""
+    chosen for it, those that owe it the answer to a call for which it waits no longer, and by their numbers those whose requests it had."""
 
     def __init__(self) -> None:
         self.names: Dict[str, None] = {}
         self.found: Dict[str, ThreadId] = {}
         self.owing: Set[ThreadId] = set()
+        self.askers: Dict[int, ThreadId] = {}
         self.chosen: Optional[ThreadId] = None
         self.again_at = 0.0
         self.is_busy = False
@@ -154,6 +155,7 @@ class Kept:
         """The thread is a new one: it has no name yet, and nobody whom it knew is there."""
         self.found.clear()
         self.owing.clear()
+        self.askers.clear()
         self.again_at = 0.0
 
 

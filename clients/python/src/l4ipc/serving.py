@@ -148,8 +148,10 @@ class Loop:
                     yield Pause(pause)
                 continue
             self.is_refused = False
-            if self.is_answer(request):
+            if request.label == FUNCTION_FAILED or kept.owing and request.sender in kept.owing:
+                self.leave(request)
                 continue
+            kept.askers[request.sender >> 32] = request.sender
             self.request, self.life = request, self.thread.lives
             try:
                 self.answer = (yield Answer(function, request)) if awaits else function(request)
@@ -163,14 +165,17 @@ class Loop:
                     yield steps.Ipc(request.sender, NILTHREAD, _FAILED, _ANSWER_AT_ONCE, (), True)
                 raise
 
-    def is_answer(self, message: Received) -> bool:
-        """Whether a message is no request: an answer for which its call did not wait, or one that says that another server's function failed. Two
-        servers that answered those of each other would do so without an end."""
-        owing = self.thread.kept.owing
-        if message.sender in owing:
-            owing.remove(message.sender)
-            return True
-        return message.label == FUNCTION_FAILED
+    def leave(self, message: Received) -> None:
+        """Leaves out what is no request: the answer to a call that was given up, or what says that another server's function failed. Two servers that
+        answered those of each other would do so without an end. Where its sender has asked before it may be a request, which is told to have failed."""
+        kept = self.thread.kept
+        kept.owing.discard(message.sender)
+        if message.label == FUNCTION_FAILED or kept.askers.get(message.sender >> 32) != message.sender:
+            return
+        error = L4Error("this may be its answer to a call that was given up")
+        error.is_of_answer = True
+        self.tell(error, message)
+        self.request, self.answer, self.life = message, _FAILED, self.thread.lives
 
     def failed(self, error: Exception, answered: Optional[Received]) -> float:
         """Tells that a call failed; how many seconds to wait before the next one. What does not pass is raised."""

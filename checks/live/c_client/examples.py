@@ -425,31 +425,34 @@ def check_unsendable(programs, l4d, room):
 
 
 def answers_that_are_late(serving, asker, late):
-    """The answer to a call that a server gave up is no request, and what its sender asks then is one; neither is what says that a function failed."""
+    """The answers to calls that a server gave up are no requests, and what their sender asks then is one; nor is what says that a function failed."""
     assert serving.connect(1)[0] == 0
     serving.tell("serve")
-    late.tell_ipc(source=ANY)
-    got = asker.ipc(to=serving.thread, source=serving.thread, rcv=0x2BE8, label=4)
-    assert got[:2] == (5 << 16, serving.thread), got
-    assert late.hear_ipc()[1] == serving.thread
+    given_up(serving, asker, late)
+    given_up(serving, asker, late)
     nothing = 0x3
-    for who, label in ((late, 7), (asker, FUNCTION_FAILED)):
+    for who, label in ((late, 7), (late, 7), (asker, FUNCTION_FAILED)):
         assert who.code(to=serving.thread, label=label) == 0
         assert who.code(source=serving.thread, rcv=0x2864) == nothing
     for who in (late, asker):
         got = who.ipc(to=serving.thread, source=serving.thread, rcv=0x2BE8, label=0)
         assert got[:2] == (5 << 16, serving.thread), got
     # of one who has asked before it may be a request, and is told to have failed
-    late.tell_ipc(source=ANY)
-    assert asker.ipc(to=serving.thread, source=serving.thread, rcv=0x2BE8, label=4)[0] == 5 << 16
-    assert late.hear_ipc()[1] == serving.thread
+    given_up(serving, asker, late)
     for label in (FUNCTION_FAILED, 5):
         got = late.ipc(to=serving.thread, source=serving.thread, rcv=0x2BE8, label=0)
         assert got[:2] == (label << 16, serving.thread), got
     assert asker.code(to=serving.thread, label=9) == 0
-    assert serving.hear()[0] == "0 0"
+    assert serving.hear()[0] == "0 1"
     late.end()
-    return 9
+    return 10
+
+
+def given_up(serving, asker, late):
+    """A call of the late one, which the server gives up."""
+    late.tell_ipc(source=ANY)
+    assert asker.ipc(to=serving.thread, source=serving.thread, rcv=0x2BE8, label=4)[0] == 5 << 16
+    assert late.hear_ipc()[1] == serving.thread
 
 
 def told_of_many(serving, asker, told, line):

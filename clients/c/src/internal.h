@@ -104,7 +104,7 @@ struct kept {
 	bool is_told;
 };
 
-/* The partners of calls that were given up once they were delivered, the last ones: their answers may come to any receive.
+/* The partners of the last calls that were given up once they were delivered: their answers may come to any receive.
  * L4_nilthread stands where there is none. */
 struct owing {
 	L4_ThreadId_t threads[MAX_OWING];
@@ -229,7 +229,7 @@ bool l4_can_write(const void *memory, L4_Word_t length);
 /* request.c: makes the frame of a call from the registers, and sends it. 0, or -1 where it is refused or the connection lost. */
 int l4_ask(struct thread *thread, struct phases *phases, L4_Word_t timeouts);
 
-/* ipc.c: whether this thread owed an answer. It owes none from then on. */
+/* ipc.c: whether this thread owed an answer. It owes one less from then on. */
 bool l4_owed(struct owing *owing, L4_ThreadId_t from);
 
 /* outcome.c: reads the outcome of a call. 0, with who sent at *from, or -1 where it is an error or the connection is lost. */

@@ -49,14 +49,12 @@ static int begin(struct thread *thread, L4_ThreadId_t to, L4_ThreadId_t from, L4
 
 bool l4_owed(struct owing *owing, L4_ThreadId_t from)
 {
-	bool is_owed = false;
-
 	for (size_t i = 0; i < MAX_OWING && !L4_IsNilThread(from); i++)
 		if (L4_IsThreadEqual(owing->threads[i], from)) {
 			owing->threads[i] = L4_nilthread;
-			is_owed = true;
+			return true;
 		}
-	return is_owed;
+	return false;
 }
 
 /* Whether a call was given up once it was delivered: its answer is still to come. */
@@ -75,9 +73,11 @@ static void keep_owing(struct thread *thread, int status)
 
 	if (!phases->sends || !L4_IsThreadEqual(phases->to, phases->from) || (status < 0 && !is_given_up(&thread->last)))
 		return;
-	(void) l4_owed(owing, phases->to);
-	if (status == 0)
+	if (status == 0) {
+		while (l4_owed(owing, phases->to))
+			;
 		return;
+	}
 	owing->threads[owing->next] = phases->to;
 	owing->next = (owing->next + 1) % MAX_OWING;
 }

@@ -161,23 +161,35 @@ static uint32_t *asker(struct thread *thread, L4_ThreadId_t from)
 	return &thread->askers[L4_ThreadNo(from) <= MAX_THREAD_NUMBER ? L4_ThreadNo(from) : 0];
 }
 
-/* Has a message answered, unless it is no request: the answer to a call that was given up, or what says that another server's
- * function failed. Two servers that answered those of each other would do so without an end. Where its sender has asked before
- * it may be a request, which is told to have failed. The thread to which the answer goes, L4_nilthread for none. */
-static L4_ThreadId_t take(struct thread *thread, l4_answer_t answer, L4_ThreadId_t from, L4_MsgTag_t tag, void *data)
+/* Leaves out what is taken for the answer to a call that was given up, and tells that, but of a name server, whose call was told.
+ * If its sender has asked before it may be a request, and is told to have failed: the thread to which that goes, else L4_nilthread. */
+static L4_ThreadId_t leave(struct thread *thread, struct teller *teller, L4_ThreadId_t from)
 {
-	bool is_owed = l4_owed(&thread->owing, from);
+	const struct phases given_up = { .sends = true, .receives = true, .to = from, .from = from };
+	bool has_asked = *asker(thread, from) == L4_Version(from);
 
+	thread->tells_failure = has_asked;
+	if (L4_ThreadNo(from) != L4_ThreadNo(thread->name_server)) {
+		(void) l4_tell_outcome(thread, E_TIMEOUT << 1 | 1, &given_up, 0);
+		thread->last.hint = "and what came of it later was taken for that answer, and left out";
+		tell_trouble(teller, thread, has_asked ? from : L4_nilthread);
+	}
+	thread->mr[0] = L4_FUNCTION_FAILED << 16;
+	return has_asked ? from : L4_nilthread;
+}
+
+/* Has a message answered, unless it is no request: the answer to a call that was given up, or what says that another server's
+ * function failed. Two servers that answered those of each other would do so without an end. The thread to which the answer
+ * goes, L4_nilthread for none. */
+static L4_ThreadId_t take(struct thread *thread, l4_answer_t answer, struct teller *teller, L4_ThreadId_t from, L4_MsgTag_t tag)
+{
+	thread->tells_failure = false;
 	if (L4_Label(tag) == L4_FUNCTION_FAILED)
 		return L4_nilthread;
-	if (!is_owed) {
-		*asker(thread, from) = (uint32_t) L4_Version(from);
-		return have_answered(thread, answer, from, tag, data);
-	}
-	if (*asker(thread, from) != L4_Version(from))
-		return L4_nilthread;
-	thread->mr[0] = L4_FUNCTION_FAILED << 16;
-	return from;
+	if (l4_owed(&thread->owing, from))
+		return leave(thread, teller, from);
+	*asker(thread, from) = (uint32_t) L4_Version(from);
+	return have_answered(thread, answer, from, tag, teller->data);
 }
 
 /* Whether an answer was not sent since it is none: what the function loaded is at fault. */
@@ -226,8 +238,7 @@ static int serve(struct thread *thread, l4_answer_t answer, struct teller *telle
 			to = L4_nilthread;
 			keep_names(thread, teller);
 		} else {
-			thread->tells_failure = false;
-			to = take(thread, answer, from, tag, teller->data);
+			to = take(thread, answer, teller, from, tag);
 		}
 	} while (thread->is_connected);
 	/* the functions ended the connection, or a call of theirs lost it */

@@ -185,18 +185,19 @@ class Serve(unittest.TestCase):
         server.close()
 
     def test_a_late_answer_is_no_request(self):
-        late, came = outcome(0x50001, OTHER, words=(2,)), []
+        late, came, told = outcome(0x50001, OTHER, words=(2,)), [], []
 
         def gives_up(request):
             came.append((request.sender, request.label))
-            if len(came) == 1:
+            if request.sender == FIRST:
                 with self.assertRaises(l4ipc.Timeout):
                     thread.call(OTHER, Message(), receive_timeout=1)
 
-        # the call of the first request is given up; then its answer comes, and a request of that thread
-        thread, server = scripted(WORDS + failed(0x3) + late + late)
-        thread.serve(gives_up, tell=lambda error, request: None)
-        self.assertEqual(came, [(FIRST, 3), (OTHER, 5)])
+        # two calls are given up; then their answers come, and a request of that thread
+        thread, server = scripted(WORDS + failed(0x3) + WORDS + failed(0x3) + late + late + late)
+        thread.serve(gives_up, tell=lambda error, request: told.append((str(error), request and request.sender)))
+        self.assertEqual(came, [(FIRST, 3), (FIRST, 3), (OTHER, 5)])
+        self.assertEqual(told[:2], 2 * [("a message of 3.1 was taken for its answer to a call that was given up", OTHER)])
         thread.close()
         server.close()
 
@@ -213,7 +214,7 @@ class Serve(unittest.TestCase):
         thread, server = scripted(asked + WORDS + failed(0x3) + asked + asked)
         thread.serve(gives_up, tell=lambda error, request: told.append((str(error), request and request.sender)))
         self.assertEqual(came, [(OTHER, 5), (FIRST, 3), (OTHER, 5)])
-        self.assertEqual(told[0], ("this may be its answer to a call that was given up", OTHER))
+        self.assertEqual(told[0], ("a message of 3.1 was taken for its answer to a call that was given up; if it was a request, that is told to have failed", OTHER))
         self.assertEqual([message_of(frame)[:2] for frame in said(server)[1:]], [(0, 0), (OTHER, 9), (OTHER, 0), (FIRST, 9), (OTHER, FUNCTION_FAILED), (OTHER, 9)])
         thread.close()
         server.close()

@@ -23,8 +23,8 @@ typedef void (*l4_trouble_t)(L4_ThreadId_t to, void *data);
 
 /* Serves until the connection is lost, as where the server l4d ends: -1 with errno, l4_error() says why. 0 where the
  * functions called l4_disconnect. Answers go with send timeout zero, so a client that does not wait gets none, and is told
- * of as trouble. What is no request is left out: the answer to one of the thread's last 16 calls that it gave up once they were
- * delivered, and what has the label L4_FUNCTION_FAILED. If the sender of such an answer has asked before, it may be a request, and
+ * of as trouble. What is no request is left out: what has the label L4_FUNCTION_FAILED, and, which is told as trouble, a message
+ * that may answer one of the thread's last 16 calls that were given up once they were delivered. If its sender has asked before, it
  * gets that label. Where trouble is null a line on standard error tells it; of trouble of one kind a line a second, and how
  * much was left out. The first 8 names that the thread got by
  * l4_register are registered again every five seconds, so that a name server that was started again knows them; where that

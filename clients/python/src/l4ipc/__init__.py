@@ -6,7 +6,7 @@ A `Thread` is a connection to the server. Its calls are those of the manual: `se
 """
 
 from . import names
-from .errors import Aborted, BadFrame, Cancelled, Closed, Fault, IpcError, L4Error, NoPartner, Overflow, Refused, Timeout
+from .errors import Aborted, BadFrame, Cancelled, Closed, Fault, IpcError, L4Error, LateAnswer, NoPartner, Overflow, Refused, Timeout
 from .exchanging import Exchanged
 from .message import Buffer, Message, Received
 from .names import NameFault, NameTimeout, NoNames, Unanswered, Unregistered
@@ -27,6 +27,7 @@ __all__ = [
     "Fault",
     "IpcError",
     "L4Error",
+    "LateAnswer",
     "Message",
     "NILTHREAD",
     "NameFault",

@@ -123,7 +123,7 @@ class Caller:
             received = call.result(outcome)
         except (Timeout, Cancelled) as error:
             if error.delivered and error.partner == call.to:
-                self.kept.owing.add(error.partner)  # its answer may come to any receive
+                self.kept.owing[call.to] = self.kept.owing.get(call.to, 0) + 1  # its answer may come to any receive
             raise
         if self.kept.owing and call.from_specifier == call.to:
             self._has_answered(call.to)
@@ -131,7 +131,7 @@ class Caller:
 
     def _has_answered(self, partner: int) -> None:
         """A call of this partner was answered: what it was asked before it has done with."""
-        self.kept.owing.discard(ThreadId(partner))
+        self.kept.owing.pop(partner, None)
 
     def _tells(self, told: Told) -> None:
         """What was told of the last call."""

@@ -2,7 +2,7 @@
 
 import re
 import time
-from typing import TYPE_CHECKING, Any, Dict, Iterator, List, Optional, Set, Tuple
+from typing import TYPE_CHECKING, Any, Dict, Iterator, List, Optional, Tuple
 
 from . import arguments, protocol, steps
 from .errors import SEND, Circumstances, Closed, IpcError, L4Error, NoPartner, Refused, Timeout
@@ -126,12 +126,12 @@ class Unanswered(Timeout):
 
 class Kept:
     """The names that a thread has registered for itself, to be registered again, the threads that it has found by their names, the name server that was
-    chosen for it, those that owe it the answer to a call for which it waits no longer, and by their numbers those whose requests it had."""
+    chosen for it, how many answers others owe it to calls for which it waits no longer, and by their numbers those whose requests it had."""
 
     def __init__(self) -> None:
         self.names: Dict[str, None] = {}
         self.found: Dict[str, ThreadId] = {}
-        self.owing: Set[ThreadId] = set()
+        self.owing: Dict[int, int] = {}
         self.askers: Dict[int, ThreadId] = {}
         self.chosen: Optional[ThreadId] = None
         self.again_at = 0.0

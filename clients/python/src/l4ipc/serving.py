@@ -8,9 +8,9 @@ from typing import TYPE_CHECKING, Callable, Dict, Optional, Sequence, Tuple
 
 from . import arguments, steps
 from .calls import NO_MESSAGE
-from .errors import RECEIVE, SEND, Closed, IpcError, L4Error, Refused, Timeout
+from .errors import RECEIVE, SEND, Closed, IpcError, L4Error, LateAnswer, Refused, Timeout
 from .message import Buffer, BufferStrings, Message, Received
-from .names import AGAIN_AFTER, KEPT_FOR
+from .names import AGAIN_AFTER, KEPT_FOR, NUMBER
 from .steps import Answer, ConnectAgain, Pause, Steps
 from .words import ANYTHREAD, MAX_LABEL, NILTHREAD, timeouts
 
@@ -46,7 +46,7 @@ def log(error: Exception, request: Optional[Received]) -> None:
     kept_name = getattr(error, "kept_name", None)
     if request is None and kept_name is not None:
         _log.warning("l4ipc: the name %s could not be registered again, and is tried again: %s", kept_name, error)
-    elif request is None:
+    elif request is None or isinstance(error, LateAnswer):
         _log.warning("l4ipc: %s", error)
     elif isinstance(error, L4Error) and error.is_of_answer:
         _log.warning("l4ipc: %s was not answered: %s", request.sender, error)
@@ -166,16 +166,22 @@ class Loop:
                 raise
 
     def leave(self, message: Received) -> None:
-        """Leaves out what is no request: the answer to a call that was given up, or what says that another server's function failed. Two servers that
-        answered those of each other would do so without an end. Where its sender has asked before it may be a request, which is told to have failed."""
-        kept = self.thread.kept
-        kept.owing.discard(message.sender)
-        if message.label == FUNCTION_FAILED or kept.askers.get(message.sender >> 32) != message.sender:
+        """Leaves out what is no request: what says that another server's function failed, or the answer to a call that was given up, which is told.
+        Two servers that answered those of each other would do so without an end.
+
+        The latter may be a request nevertheless. Where its sender has asked before it gets that label; else nobody can be told whether it waits.
+        """
+        if message.label == FUNCTION_FAILED:
             return
-        error = L4Error("this may be its answer to a call that was given up")
-        error.is_of_answer = True
-        self.tell(error, message)
-        self.request, self.answer, self.life = message, _FAILED, self.thread.lives
+        kept, sender = self.thread.kept, message.sender
+        kept.owing[sender] -= 1
+        if not kept.owing[sender]:
+            del kept.owing[sender]
+        has_asked = kept.askers.get(sender >> 32) == sender
+        if sender.number != NUMBER:  # (a name server asks nothing, and what it did not answer was told)
+            self.tell(LateAnswer(sender, has_asked), message)
+        if has_asked:
+            self.request, self.answer, self.life = message, _FAILED, self.thread.lives
 
     def failed(self, error: Exception, answered: Optional[Received]) -> float:
         """Tells that a call failed; how many seconds to wait before the next one. What does not pass is raised."""

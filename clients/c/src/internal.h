@@ -147,8 +147,6 @@ struct thread {
 	bool has_chosen_names;
 	struct kept kept;
 	struct owing owing;
-	/* by its number the version of each thread whose requests l4_serve had */
-	uint32_t askers[MAX_THREAD_NUMBER + 1];
 	char text[512];
 	/* the path that was connected to, and the name that was asked for */
 	char path[MAX_PATH_BYTES + 1];

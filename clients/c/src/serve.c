@@ -15,6 +15,11 @@ enum {
 	PAUSE = 100,
 	/* how long trouble of one kind is left out after a line about it, in microseconds */
 	QUIET = 1000000,
+	/* after how many answers a server pauses before it waits again, how long at least, and how long another one may take for an
+	 * answer that the pause is to outlast, in milliseconds */
+	ANSWERS = 4000,
+	LEAST_PAUSE = 2,
+	LONGEST_TURN = 50,
 };
 
 /* Trouble of one kind: until when it is left out, and how often it was. */
@@ -155,41 +160,55 @@ static void keep_names(struct thread *thread, struct teller *teller)
 	kept->is_told = false;
 }
 
-/* The version of the last thread of that number whose request was had, 0 for none. */
-static uint32_t *asker(struct thread *thread, L4_ThreadId_t from)
-{
-	return &thread->askers[L4_ThreadNo(from) <= MAX_THREAD_NUMBER ? L4_ThreadNo(from) : 0];
-}
-
-/* Leaves out what is taken for the answer to a call that was given up, and tells that, but of a name server, whose call was told.
- * If its sender has asked before it may be a request, and is told to have failed: the thread to which that goes, else L4_nilthread. */
+/* Leaves out what is taken for the answer to a call that was given up, and tells that. As it may be a request nevertheless its
+ * sender is told that it failed; but a name server asks nothing. The thread to which that goes, L4_nilthread for none. */
 static L4_ThreadId_t leave(struct thread *thread, struct teller *teller, L4_ThreadId_t from)
 {
 	const struct phases given_up = { .sends = true, .receives = true, .to = from, .from = from };
-	bool has_asked = *asker(thread, from) == L4_Version(from);
 
-	thread->tells_failure = has_asked;
-	if (L4_ThreadNo(from) != L4_ThreadNo(thread->name_server)) {
-		(void) l4_tell_outcome(thread, E_TIMEOUT << 1 | 1, &given_up, 0);
-		thread->last.hint = "and what came of it later was taken for that answer, and left out";
-		tell_trouble(teller, thread, has_asked ? from : L4_nilthread);
-	}
+	if (L4_ThreadNo(from) == L4_ThreadNo(thread->name_server))
+		return L4_nilthread;
+	(void) l4_tell_outcome(thread, E_TIMEOUT << 1 | 1, &given_up, 0);
+	thread->last.hint = "and what came of it later was taken for that answer";
+	thread->tells_failure = true;
+	tell_trouble(teller, thread, from);
 	thread->mr[0] = L4_FUNCTION_FAILED << 16;
-	return has_asked ? from : L4_nilthread;
+	return from;
 }
 
 /* Has a message answered, unless it is no request: the answer to a call that was given up, or what says that another server's
- * function failed. Two servers that answered those of each other would do so without an end. The thread to which the answer
- * goes, L4_nilthread for none. */
+ * function failed. The thread to which the answer goes, L4_nilthread for none. */
 static L4_ThreadId_t take(struct thread *thread, l4_answer_t answer, struct teller *teller, L4_ThreadId_t from, L4_MsgTag_t tag)
 {
 	thread->tells_failure = false;
 	if (L4_Label(tag) == L4_FUNCTION_FAILED)
 		return L4_nilthread;
-	if (l4_owed(&thread->owing, from))
-		return leave(thread, teller, from);
-	*asker(thread, from) = (uint32_t) L4_Version(from);
-	return have_answered(thread, answer, from, tag, teller->data);
+	return l4_owed(&thread->owing, from) ? leave(thread, teller, from) : have_answered(thread, answer, from, tag, teller->data);
+}
+
+/* How many answers were sent since the last pause, when the last of them was, and how long after it the next message came. */
+struct pace {
+	unsigned answers;
+	int64_t answered_at;
+	int64_t turn;
+};
+
+/* A message came, after an answer where that was one. */
+static void keep_pace(struct pace *pace, bool is_after_answer)
+{
+	pace->answers += is_after_answer;
+	if (pace->answers == ANSWERS && is_after_answer)
+		pace->turn = l4_end_of(L4_ZeroTime) - pace->answered_at;
+	if (pace->answers == ANSWERS - 1)
+		pace->answered_at = l4_end_of(L4_ZeroTime);
+}
+
+/* Lets a while pass before the next message is waited for: clients wait meanwhile. Two servers that answer each other's answers,
+ * as after a message in the name of one, come to an end so: an answer has zero time, and finds nobody who waits for it. */
+static void pause_once(struct pace *pace)
+{
+	(void) poll(NULL, 0, (int) (pace->turn < LONGEST_TURN ? LEAST_PAUSE + 2 * pace->turn : LEAST_PAUSE));
+	*pace = (struct pace) { 0 };
 }
 
 /* Whether an answer was not sent since it is none: what the function loaded is at fault. */
@@ -207,13 +226,14 @@ static L4_MsgTag_t reply_to(L4_ThreadId_t to)
 static int serve(struct thread *thread, l4_answer_t answer, struct teller *teller)
 {
 	L4_ThreadId_t to = L4_nilthread, from;
+	struct pace pace = { 0 };
 	bool is_refused = false;
 
 	do {
 		L4_Time_t patience = l4_names_patience(thread);
-		bool is_due = L4_IsTimeEqual(patience, L4_ZeroTime);
+		bool is_due = L4_IsTimeEqual(patience, L4_ZeroTime), pauses = pace.answers >= ANSWERS;
 		L4_Word_t answer_tag = thread->mr[0];
-		L4_MsgTag_t tag = is_due ? reply_to(to) : L4_ReplyWait_Timeout(to, patience, &from);
+		L4_MsgTag_t tag = is_due || pauses ? reply_to(to) : L4_ReplyWait_Timeout(to, patience, &from);
 
 		if (L4_IpcFailed(tag) && is_answer_refused(thread, to)) {
 			if (!is_refused)
@@ -234,10 +254,14 @@ static int serve(struct thread *thread, l4_answer_t answer, struct teller *telle
 				thread->mr[0] = L4_FUNCTION_FAILED << 16;
 			else
 				to = L4_nilthread;
+		} else if (pauses) {
+			to = L4_nilthread;
+			pause_once(&pace);
 		} else if (is_due) {
 			to = L4_nilthread;
 			keep_names(thread, teller);
 		} else {
+			keep_pace(&pace, !L4_IsNilThread(to));
 			to = take(thread, answer, teller, from, tag);
 		}
 	} while (thread->is_connected);

@@ -147,7 +147,6 @@ static void begin(struct thread *thread, unsigned version)
 	thread->has_chosen_names = false;
 	thread->kept = (struct kept) { 0 };
 	thread->owing = (struct owing) { 0 };
-	memset(thread->askers, 0, sizeof thread->askers);
 	thread->error_code = 0;
 }
 

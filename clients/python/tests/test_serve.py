@@ -1,13 +1,16 @@
 """The loop of a server."""
 
+import itertools
 import threading
 import time
+import types
 import unittest
 import unittest.mock
 
 import l4ipc
 from l4ipc import FUNCTION_FAILED, Message, Received, ThreadId
 from l4ipc.names import Names
+from l4ipc.words import ANYTHREAD
 
 from .scripted import DONE, REFUSED, STRING, WORDS, failed, outcome, said, scripted
 
@@ -192,32 +195,29 @@ class Serve(unittest.TestCase):
             if request.sender == FIRST:
                 with self.assertRaises(l4ipc.Timeout):
                     thread.call(OTHER, Message(), receive_timeout=1)
-
-        # two calls are given up; then their answers come, and a request of that thread
-        thread, server = scripted(WORDS + failed(0x3) + WORDS + failed(0x3) + late + late + late)
-        thread.serve(gives_up, tell=lambda error, request: told.append((str(error), request and request.sender)))
-        self.assertEqual(came, [(FIRST, 3), (FIRST, 3), (OTHER, 5)])
-        self.assertEqual(told[:2], 2 * [("a message of 3.1 was taken for its answer to a call that was given up", OTHER)])
-        thread.close()
-        server.close()
-
-    def test_who_owes_an_answer_and_has_asked_before_is_told_that_it_failed(self):
-        asked, came, told = outcome(0x50001, OTHER, words=(2,)), [], []
-
-        def gives_up(request):
-            came.append((request.sender, request.label))
-            if request.sender == FIRST:
-                with self.assertRaises(l4ipc.Timeout):
-                    thread.call(OTHER, Message(), receive_timeout=1)
             return Message(9)
 
-        thread, server = scripted(asked + WORDS + failed(0x3) + asked + asked)
+        # two calls are given up; then their answers come, and a request of that thread
+        thread, server = scripted(2 * (WORDS + failed(0x3)) + 3 * late)
         thread.serve(gives_up, tell=lambda error, request: told.append((str(error), request and request.sender)))
-        self.assertEqual(came, [(OTHER, 5), (FIRST, 3), (OTHER, 5)])
-        self.assertEqual(told[0], ("a message of 3.1 was taken for its answer to a call that was given up; if it was a request, that is told to have failed", OTHER))
-        self.assertEqual([message_of(frame)[:2] for frame in said(server)[1:]], [(0, 0), (OTHER, 9), (OTHER, 0), (FIRST, 9), (OTHER, FUNCTION_FAILED), (OTHER, 9)])
+        self.assertEqual(came, [(FIRST, 3), (FIRST, 3), (OTHER, 5)])
+        says = "a message of 3.1 was taken for its answer to a call that was given up; if it was a request, it is told to have failed"
+        self.assertEqual(told[:2], 2 * [(says, OTHER)])
+        labels = [message_of(frame)[:2] for frame in said(server)[1:]]
+        self.assertEqual(labels, [(0, 0), (OTHER, 0), (FIRST, 9), (OTHER, 0), (FIRST, 9), (OTHER, FUNCTION_FAILED), (OTHER, FUNCTION_FAILED), (OTHER, 9)])
         thread.close()
         server.close()
+
+    def test_a_server_pauses_after_many_answers(self):
+        for turn, pause in ((0.0, 0.001), (0.02, 0.041), (0.5, 0.001)):
+            clock = itertools.chain([10.0, 10.0 + turn], itertools.repeat(20.0))
+            with unittest.mock.patch("l4ipc.serving.ANSWERS", 2), unittest.mock.patch("time.sleep") as sleep, \
+                    unittest.mock.patch("l4ipc.serving.time", types.SimpleNamespace(monotonic=lambda: next(clock))):
+                told, frames = served(3 * WORDS + DONE + WORDS, lambda request: Message(9))
+            partners = [(int.from_bytes(frame[5:13], "big"), int.from_bytes(frame[13:21], "big")) for frame in frames]
+            self.assertEqual(partners, [(0, ANYTHREAD), (FIRST, ANYTHREAD), (FIRST, ANYTHREAD), (FIRST, 0), (0, ANYTHREAD), (FIRST, ANYTHREAD)])
+            (paused,), _ = sleep.call_args
+            self.assertAlmostEqual(paused, pause)
 
     def test_who_was_called_again_owes_no_more(self):
         late, came = outcome(0x50001, OTHER, words=(2,)), []

@@ -23,9 +23,9 @@ typedef void (*l4_trouble_t)(L4_ThreadId_t to, void *data);
 
 /* Serves until the connection is lost, as where the server l4d ends: -1 with errno, l4_error() says why. 0 where the
  * functions called l4_disconnect. Answers go with send timeout zero, so a client that does not wait gets none, and is told
- * of as trouble. What is no request is left out: what has the label L4_FUNCTION_FAILED, and, which is told as trouble, a message
- * that may answer one of the thread's last 16 calls that were given up once they were delivered. If its sender has asked before, it
- * gets that label. Where trouble is null a line on standard error tells it; of trouble of one kind a line a second, and how
+ * of as trouble. What has the label L4_FUNCTION_FAILED is left out. A message that may answer one of the thread's last 16 calls
+ * that were given up once they were delivered is told as trouble, and gets that label. After 4,000 answers a few milliseconds
+ * pass before the next message is waited for, so that servers that answer each other's answers end that. Where trouble is null a line on standard error tells it; of trouble of one kind a line a second, and how
  * much was left out. The first 8 names that the thread got by
  * l4_register are registered again every five seconds, so that a name server that was started again knows them; where that
  * fails it is tried again each second, and told of once. A receive that can never be made (buffers that

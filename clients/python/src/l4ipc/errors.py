@@ -229,17 +229,15 @@ class Closed(L4Error):
 
 class LateAnswer(L4Error):
     """A server of `serve` got a message of a thread that owes it the answer to a call that was given up. It is taken for that answer, and the function
-    does not get it. Where the ``sender`` has asked before it may be a request: ``is_refused`` says that it gets the label `FUNCTION_FAILED`, then.
+    does not get it. As it may be a request nevertheless, the ``sender`` gets the label `FUNCTION_FAILED`.
     """
 
-    def __init__(self, sender: ThreadId, is_refused: bool) -> None:
+    def __init__(self, sender: ThreadId) -> None:
         self.sender = sender
-        self.is_refused = is_refused
-        super().__init__(sender, is_refused)
+        super().__init__(sender)
 
     def __str__(self) -> str:
-        refused = "; if it was a request, that is told to have failed" if self.is_refused else ""
-        return f"a message of {self.sender} was taken for its answer to a call that was given up{refused}"
+        return f"a message of {self.sender} was taken for its answer to a call that was given up; if it was a request, it is told to have failed"
 
 
 class BadFrame(L4Error):

@@ -126,13 +126,12 @@ class Unanswered(Timeout):
 
 class Kept:
     """The names that a thread has registered for itself, to be registered again, the threads that it has found by their names, the name server that was
-    chosen for it, how many answers others owe it to calls for which it waits no longer, and by their numbers those whose requests it had."""
+    chosen for it, and how many answers others owe it to calls for which it waits no longer."""
 
     def __init__(self) -> None:
         self.names: Dict[str, None] = {}
         self.found: Dict[str, ThreadId] = {}
         self.owing: Dict[int, int] = {}
-        self.askers: Dict[int, ThreadId] = {}
         self.chosen: Optional[ThreadId] = None
         self.again_at = 0.0
         self.is_busy = False
@@ -155,7 +154,6 @@ class Kept:
         """The thread is a new one: it has no name yet, and nobody whom it knew is there."""
         self.found.clear()
         self.owing.clear()
-        self.askers.clear()
         self.again_at = 0.0
 
 

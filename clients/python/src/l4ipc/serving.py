@@ -28,6 +28,12 @@ FUNCTION_FAILED = MAX_LABEL
 
 _FAILED = Message(FUNCTION_FAILED)
 
+ANSWERS = 4_000
+"""After how many answers a server pauses before it waits again: for two servers that answer each other's answers."""
+
+LEAST_PAUSE, LONGEST_TURN = 0.001, 0.05
+"""How many seconds such a pause has at least, and how long the other one may take for an answer that the pause is to outlast."""
+
 QUIET = 1.0
 """For how many seconds the logger is told no more of errors of one kind."""
 
@@ -109,6 +115,8 @@ class Loop:
         self.answer: Optional[Message] = None
         self.names_failed = self.is_refused = False
         self.life = thread.lives
+        # how many answers were sent since the last pause, when the last of them was, and how many seconds later the next message came
+        self.answers, self.answered_at, self.turn = 0, 0.0, 0.0
 
     def run(self) -> Steps[None]:
         """Serves until the connection has ended, and is not made again."""
@@ -141,6 +149,9 @@ class Loop:
                 yield from self.keep_names()
             answered, self.request = self.request, None
             try:
+                if self.answers >= ANSWERS and answered is not None:
+                    yield from self.answer_alone(answered)
+                    answered = None
                 request: Received = yield self.next_call(answered)
             except (IpcError, Refused, TypeError, ValueError) as error:
                 pause = self.failed(error, answered)
@@ -148,10 +159,11 @@ class Loop:
                     yield Pause(pause)
                 continue
             self.is_refused = False
+            if self.answers == ANSWERS:
+                self.turn = time.monotonic() - self.answered_at
             if request.label == FUNCTION_FAILED or kept.owing and request.sender in kept.owing:
                 self.leave(request)
                 continue
-            kept.askers[request.sender >> 32] = request.sender
             self.request, self.life = request, self.thread.lives
             try:
                 self.answer = (yield Answer(function, request)) if awaits else function(request)
@@ -166,22 +178,26 @@ class Loop:
                 raise
 
     def leave(self, message: Received) -> None:
-        """Leaves out what is no request: what says that another server's function failed, or the answer to a call that was given up, which is told.
-        Two servers that answered those of each other would do so without an end.
-
-        The latter may be a request nevertheless. Where its sender has asked before it gets that label; else nobody can be told whether it waits.
-        """
+        """Leaves out what is no request: what says that another server's function failed, or the answer to a call that was given up. The latter is told,
+        and as it may be a request nevertheless its sender gets that label; but a name server asks nothing."""
         if message.label == FUNCTION_FAILED:
             return
         kept, sender = self.thread.kept, message.sender
         kept.owing[sender] -= 1
         if not kept.owing[sender]:
             del kept.owing[sender]
-        has_asked = kept.askers.get(sender >> 32) == sender
-        if sender.number != NUMBER:  # (a name server asks nothing, and what it did not answer was told)
-            self.tell(LateAnswer(sender, has_asked), message)
-        if has_asked:
+        if sender.number != NUMBER and sender != kept.chosen:
+            self.tell(LateAnswer(sender), message)
             self.request, self.answer, self.life = message, _FAILED, self.thread.lives
+
+    def answer_alone(self, answered: Received) -> Steps[None]:
+        """Answers, and lets a while pass before the next message is waited for: clients wait meanwhile. Two servers that answer each other's answers,
+        as after a message in the name of one, come to an end so: an answer has zero time, and finds nobody who waits for it."""
+        self.answers = 0
+        call = self.next_call(answered)
+        if call.to:
+            yield call._replace(from_specifier=NILTHREAD, buffers=())
+        yield Pause(LEAST_PAUSE + 2 * self.turn if self.turn < LONGEST_TURN else LEAST_PAUSE)
 
     def failed(self, error: Exception, answered: Optional[Received]) -> float:
         """Tells that a call failed; how many seconds to wait before the next one. What does not pass is raised."""
@@ -216,6 +232,9 @@ class Loop:
         patience = _NEVER if not thread.kept.names else _AGAIN_AFTER if self.names_failed else _KEPT_FOR
         if answered is None or answer is None or self.life != thread.lives:
             return steps.Ipc(NILTHREAD, ANYTHREAD, NO_MESSAGE, patience, self.buffers)
+        self.answers += 1
+        if self.answers == ANSWERS:
+            self.answered_at = time.monotonic()
         return _step(steps.Ipc, (answered.sender, ANYTHREAD, answer, _ANSWER_AT_ONCE | patience, self.buffers, True))
 
     def keep_names(self) -> Steps[None]:

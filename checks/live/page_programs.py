@@ -15,6 +15,7 @@ Its last line is `N checked, M failed`; the status is 0 where M is 0.
 import os
 import re
 import signal
+import socket
 import subprocess
 import sys
 import tempfile
@@ -441,6 +442,40 @@ def another_driver(l4d):
         check("driver.py beside another driver", (process.returncode, text.count("\n"), "60.1 answered without a line" in text) == (1, 1, True), text)
 
 
+def two_servers(l4d, programs):
+    """Two of README's servers, which a message to one in the name of the other has answer each other's answers: they stop, and serve on."""
+    key = ("README.md", "server.py")
+    one, two = SERVES[key], Serving(2, Message(0, [40, 2]), words_are(42))
+    with open(programs[key], encoding="utf-8") as file:
+        text = file.read().replace("sys.argv[1], 1,", "sys.argv[1], 2,")
+    programs = {**programs, "two": f"{programs[key]}.two.py"}
+    with open(programs["two"], "w", encoding="utf-8") as file:
+        file.write(text)
+    with Running(l4d, programs) as running:
+        folder, said = running.server.folder, []
+        for name, row in ((key, one), ("two", two)):
+            running.start(name, row)
+            said.append(running.until_it_serves(row))
+        with thread(folder, WORST) as worst:
+            worst.send(ThreadId.of(1, 1), Message(0, [7], originator=ThreadId.of(2, 1)), 5)
+            limit, calls = time.monotonic() + 60, [0, 1]
+            while len(set(calls[-2:])) > 1 and time.monotonic() < limit:
+                time.sleep(0.5)
+                calls.append(calls_over(folder))
+            check("two servers stop", not any(said) and 3_000 < calls[-1] == calls[-2], f"{said} {calls}")
+        said = [running.asked(row) for row in (one, two)]
+        check("two servers that have stopped serve on", not any(said), said)
+
+
+def calls_over(folder):
+    """How many calls of an l4d are over, as it tells."""
+    with socket.socket(socket.AF_UNIX) as asker:
+        asker.connect(f"{folder}/control")
+        asker.sendall(b"counters\n")
+        answer = b"".join(iter(lambda: asker.recv(65_536), b"")).decode()
+    return int(re.search(r"^calls_over ([0-9]+)$", answer, re.M)[1])
+
+
 def words_are_told(folder):
     """Words that an example does not take are told in a few lines, with status 2; that nobody serves in the folder is told in one, with status 1."""
     for path in EXAMPLES:
@@ -462,6 +497,7 @@ def main():
         words_are_told(folder)
         another_driver(l4d)
         programs = all_programs(folder)
+        two_servers(l4d, programs)
         for kind, table in ((survives, SERVES), (prints, ASKS), (waits, WAITS)):
             for key in table:
                 if key in programs:

@@ -419,6 +419,7 @@ def check_unsendable(programs, l4d, room):
         assert lines[0] == f"l4_serve: 2.1 gets L4_FUNCTION_FAILED in place of an answer: F4: {MEANINGS['F4']}" and nobody in lines[1:], lines
         told_of_many(serving, asker, told, nobody)
         rows = answers_that_are_late(serving, asker, Say(programs["say"], server.dir, 3))
+        rows += two_servers(server, asker, [Say(programs["say"], server.dir, number) for number in (4, 5)])
         serving.end()
         asker.end()
         return len(labels) + 6 + rows
@@ -442,6 +443,26 @@ def answers_that_are_late(serving, asker, late):
     assert told == "0" and int(troubles) >= 2, (told, troubles)
     late.end()
     return 6
+
+
+def two_servers(server, asker, both):
+    """Two servers, which a message to one in the name of the other has answer each other's answers: they stop, and serve on."""
+    one, two = both
+    for it in both:
+        it.tell("serve")
+    assert asker.code(to=one.thread, virtual=two.thread, words=(7,)) == 0
+    limit, sizes = time.time() + 60, [0, 1]
+    while len(set(sizes[-2:])) > 1:
+        assert time.time() < limit, f"they answer each other's answers without an end: {sizes[-1]} bytes of trace"
+        time.sleep(0.5)
+        sizes.append(os.path.getsize(server.trace))
+    for it in both:
+        got = asker.ipc(to=it.thread, source=it.thread, rcv=0x2BE8, label=0)
+        assert got[:2] == (5 << 16, it.thread), got
+        assert asker.code(to=it.thread, label=9) == 0
+        assert it.hear()[0].startswith("0 "), it
+        it.end()
+    return 4
 
 
 def given_up(serving, asker, late):

@@ -231,10 +231,11 @@ def faults_of_codes(l4sh, _):
         meaning, helps = meaning.split(b"\n", 1)
         if end != [0, b""] or not helps.startswith(b"what helps: "):
             yield f"{letter}{number} ends so: {end}, {helps}"
-        word = f"{16 * (256 * ord(letter) + number):#x}"
-        told = ended([l4sh, "explain", word])[0].partition(b"\n")[0]
-        if told != b"as an ErrorCode: of the C client, " + meaning:
-            yield f"{word} is told so: {told}"
+        # of a call that has a send phase, and of one that has none
+        for word in (16 * (256 * ord(letter) + number), 16 * (256 * ord(letter) + number) + 1):
+            told = ended([l4sh, "explain", f"{word:#x}"])[0].partition(b"\n")[0]
+            if told != b"as an ErrorCode: of the C client, " + meaning:
+                yield f"{word:#x} is told so: {told}"
 
 
 def faults_of_folder(l4sh, path):

@@ -63,6 +63,18 @@ static void match(struct driver *driver)
 	}
 }
 
+/* Whether there is room for one more reader. A thread asks once: an earlier one of its number has ended. */
+static bool has_room(struct driver *driver, L4_ThreadId_t reader)
+{
+	size_t kept = 0;
+
+	for (size_t i = 0; i < driver->count; i++)
+		if (L4_ThreadNo(driver->readers[i]) != L4_ThreadNo(reader))
+			driver->readers[kept++] = driver->readers[i];
+	driver->count = kept;
+	return kept < READERS;
+}
+
 static L4_Bool_t answer(L4_ThreadId_t from, L4_MsgTag_t tag, void *data)
 {
 	struct driver *driver = data;
@@ -74,7 +86,7 @@ static L4_Bool_t answer(L4_ThreadId_t from, L4_MsgTag_t tag, void *data)
 		driver->bytes = item.raw[0] >> 10;
 		memcpy(driver->line, driver->buffer, driver->bytes);
 		driver->watcher = from;
-	} else if (L4_Label(tag) == READ && driver->count < READERS) {
+	} else if (L4_Label(tag) == READ && has_room(driver, from)) {
 		driver->readers[driver->count++] = from;
 	} else {
 		return answer_label(DENIED);
@@ -185,10 +197,12 @@ static void read_line(L4_ThreadId_t driver)
 	if (L4_IpcFailed(tag))
 		fail("read");
 	L4_MsgStore(tag, &msg);
-	if (L4_MsgGetStringItem(&msg, 0, &item) == 0)
+	if (L4_MsgGetStringItem(&msg, 0, &item) == 0) {
 		printf("denied\n");
-	else
-		printf("%.*s\n", (int) (item.raw[0] >> 10), line);
+		l4_disconnect();
+		exit(1);
+	}
+	printf("%.*s\n", (int) (item.raw[0] >> 10), line);
 }
 
 int main(int argc, char **argv)

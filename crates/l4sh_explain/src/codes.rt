@@ -55,9 +55,10 @@ pub fn meaning_behind(letter: u8, number: u8) -> Option<&'static str> {
     Some(code_in(family_of(&FAMILIES, &[letter])?, u64::from(number))?.meaning)
 }
 
-/// The code of an error code that the C client made of it: 16 times the letter and the number.
+/// The code of an error code that the C client made of it: 16 times the letter and the number, and
+/// 1 more of a call without a send phase.
 pub(crate) fn code_in_word(word: u64) -> Option<Code> {
-    if word % 16 != 0 || word > 0xf_ffff {
+    if word % 16 > 1 || word > 0xf_ffff {
         return None;
     }
     let letter = [u8::try_from(word / 0x1000).ok()?];

@@ -59,7 +59,7 @@ fn meaning_reason(
 fn part_reason(alloc: Global) -> Result<String, AllocError> {
     String::from_str(
         alloc,
-        "a part begins in the middle of a history, which it does not tell: name the files before it, oldest first, and then this one; where they are gone, check, state and follow still take it",
+        "a part begins in the middle of a history, which it does not tell: name the files before it, oldest first, and then this one; where they are gone, check, state and follow still take its file, but not `-`",
     )
 }
 

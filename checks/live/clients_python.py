@@ -17,7 +17,7 @@ import sys
 sys.path[1:1] = [f"{sys.path[0]}/../lib", f"{sys.path[0]}/../../clients/python/src"]
 
 from python_client.calls import ended_threads, errors, faults, forked, long_life, propagation, refusals, spaces, strings, versions
-from python_client.naming import bad_names, busy_names, chosen_names, full_names, name_server_restarts, names_over_restarts, propagated_names, server_restarts, stopped_names
+from python_client.naming import answered_answers, bad_names, busy_names, chosen_names, full_names, name_server_restarts, names_over_restarts, propagated_names, server_restarts, stopped_names
 from python_client.package import examples, first_program, installed, name_server, own_tests, types
 from python_client.relayed import documented_frames
 from python_client.seeing import Server, servers, tally
@@ -50,6 +50,7 @@ def run(l4d, l4sh, l4x):
     trace(server, l4sh)
     server.stop()
     stopped_names(l4d, l4x)
+    answered_answers(l4d, l4x)
     chosen_names(l4d, l4x)
     names_over_restarts(l4d, l4x)
     documented_frames(l4d, l4x)

@@ -158,6 +158,25 @@ def stopped_names(l4d, l4x):
         thread.close()
 
 
+def answered_answers(l4d, l4x):
+    """Servers of l4x whose answers are answered without an end: they pause, so that an answer finds nobody who waits for it."""
+    server = Server(l4d)
+    name_server(server, l4x, 1)
+    server.start([l4x, server.folder, "keyvalue"])
+    with l4ipc.Thread(server.folder, 5, wait_for=10) as bounces:
+        for to in (ThreadId.of(1, 1), ThreadId.of(names.NUMBER, 1)):
+            bounces.call(to, Message(9, [1]), wait_for=10)
+            came, turns = bounces.ipc(to, l4ipc.ANYTHREAD, Message(9, [1]), 10, 10), 0
+            while came is not None and turns < 20_000:
+                try:
+                    came, turns = bounces.reply_wait(came.sender, Message(9, [1]), 10), turns + 1
+                except l4ipc.Timeout as end:
+                    came, phase = None, end.phase
+            same(f"{to} is answered so often: {turns}", (came, phase if came is None else None, turns > 3_000), (None, "send", True))
+            same(f"{to} serves on", bounces.call(to, Message(9, [1]), 10, 10).sender, to)
+    server.stop()
+
+
 def chosen_names(l4d, l4x):
     """A name server past version 63 is chosen for a thread; whatever asks for a name asks that one then, and no other."""
     server = Server(l4d)

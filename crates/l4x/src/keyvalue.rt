@@ -1,10 +1,11 @@
 //! A server that keeps words by words.
 use crate::messages::{Received, message, message_of, receive_any};
+use crate::pace::Pace;
 use crate::registration::Registration;
 use crate::room::Room;
 use crate::trouble::Trouble;
 use ipc_base::{PortRead, PortWrite};
-use ipc_client::{Answer, Buffers, Client, Message};
+use ipc_client::{Answer, Buffers, Client, Message, Timeout};
 use std::alloc::Global;
 use std::collections::BTreeMap;
 use std::rt::Clock;
@@ -45,12 +46,17 @@ fn serve_from<I: PortRead, O: PortWrite, R: Wait + Clock + Eprint>(
     table: &mut BTreeMap<u64, u64>,
 ) -> Result<(), Trouble> {
     let mut room = Room::new();
+    let mut pace = Pace::new();
     let mut waiting = None;
     for _ in rt.forever() {
         registration.keep(rt, alloc, client)?;
-        match next_request(alloc, client, registration, table, &waiting) {
+        let is_alone = pace.is_due();
+        match next_request(alloc, client, registration, table, &waiting, is_alone) {
             Ok(next) => {
                 room.is_there();
+                if waiting.is_some() {
+                    pace.answered(rt, is_alone);
+                }
                 waiting = next;
             }
             Err(trouble) => room.wait(rt, trouble)?,
@@ -59,16 +65,18 @@ fn serve_from<I: PortRead, O: PortWrite, R: Wait + Clock + Eprint>(
     Ok(())
 }
 
-/// Answers the request that waits, if any, and receives the next one. None: there is none before
-/// the name is registered again.
+/// Answers the request that waits, if any, and receives the next one, unless the answer goes out
+/// alone. None: there is none before the name is registered again.
 fn next_request<I: PortRead, O: PortWrite>(
     alloc: Global,
     client: &mut Client<I, O>,
     registration: &Registration,
     table: &mut BTreeMap<u64, u64>,
     waiting: &Option<Received>,
+    is_alone: bool,
 ) -> Result<Option<Received>, Trouble> {
     let next = match waiting {
+        Some(request) if is_alone => return answer_alone(alloc, client, table, *request),
         Some(request) => answer_and_wait(alloc, client, registration, table, *request),
         None => receive_any(alloc, client, registration.patience()),
     };
@@ -89,6 +97,18 @@ fn answer_and_wait<I: PortRead, O: PortWrite>(
     let answer = answer(alloc, table, request)?;
     let buffers = Buffers::none(alloc);
     Ok(client.reply_wait(request.sender, answer, registration.patience(), buffers)?)
+}
+
+/// Answers a request, and receives nothing.
+fn answer_alone<I: PortRead, O: PortWrite>(
+    alloc: Global,
+    client: &mut Client<I, O>,
+    table: &mut BTreeMap<u64, u64>,
+    request: Received,
+) -> Result<Option<Received>, Trouble> {
+    let answer = answer(alloc, table, request)?;
+    let _ = message_of(client.send(request.sender, answer, Timeout::zero())?)?;
+    Ok(None)
 }
 
 /// The answer to a request.

@@ -13,6 +13,7 @@ mod messages;
 mod mistake;
 mod names;
 mod naming;
+mod pace;
 mod registration;
 mod role;
 mod room;

@@ -5,6 +5,7 @@ mod registering;
 
 use crate::messages::{name_buffer, next_of};
 use crate::naming::{NameError, Reply, Request};
+use crate::pace::Pace;
 use crate::room::Room;
 use crate::table::Table;
 use crate::trouble::Trouble;
@@ -65,11 +66,17 @@ fn serve_from<I: PortRead, O: PortWrite, R: Wait + Clock + Eprint>(
     table: &mut Table,
 ) -> Result<(), Trouble> {
     let mut room = Room::new();
+    let mut pace = Pace::new();
     let mut work = Work::Nothing;
     for _ in rt.forever() {
-        match turn(alloc, client, table, work) {
+        let is_answer = matches!(&work, Work::Answer(..));
+        let is_alone = pace.is_due();
+        match turn(alloc, client, table, work, is_alone) {
             Ok(next) => {
                 room.is_there();
+                if is_answer {
+                    pace.answered(rt, is_alone);
+                }
                 work = next;
             }
             Err(undone) => {
@@ -86,17 +93,18 @@ fn serve_from<I: PortRead, O: PortWrite, R: Wait + Clock + Eprint>(
     Ok(())
 }
 
-// Does the work that is there, and has the next one.
+// Does the work that is there, and has the next one, unless an answer goes out alone.
 fn turn<I: PortRead, O: PortWrite>(
     alloc: Global,
     client: &mut Client<I, O>,
     table: &mut Table,
     work: Work,
+    is_alone: bool,
 ) -> Result<Work, Undone> {
     match work {
         Work::Nothing => receive(alloc, client),
         Work::Request(request) => serve_request(alloc, client, table, request),
-        Work::Answer(sender, served) => send_answer(alloc, client, sender, served),
+        Work::Answer(sender, served) => send_answer(alloc, client, sender, served, is_alone),
     }
 }
 
@@ -151,14 +159,16 @@ fn serve_request<I: PortRead, O: PortWrite>(
     }
 }
 
-// Sends an answer. The next request is that which was taken meanwhile, or the next that comes.
+// Sends an answer. The next request is that which was taken meanwhile, or the next that comes; none
+// where the answer goes out alone.
 fn send_answer<I: PortRead, O: PortWrite>(
     alloc: Global,
     client: &mut Client<I, O>,
     sender: ThreadId,
     served: Served,
+    is_alone: bool,
 ) -> Result<Work, Undone> {
-    match answer(alloc, client, sender, &served) {
+    match answer(alloc, client, sender, &served, is_alone) {
         Ok(came) => {
             let Served { reply, next } = served;
             drop(reply);

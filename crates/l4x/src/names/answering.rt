@@ -8,15 +8,17 @@ use ipc_client::{Client, Message, Received, Timeout};
 use ipc_words::ThreadId;
 use std::alloc::Global;
 
-/// Sends what is answered. It brings the next request that comes, unless one is there already.
+/// Sends what is answered. It brings the next request that comes, unless one is there already, or
+/// the answer goes out alone.
 pub(super) fn answer<I: PortRead, O: PortWrite>(
     alloc: Global,
     client: &mut Client<I, O>,
     sender: ThreadId,
     served: &Served,
+    is_alone: bool,
 ) -> Result<Option<Received>, Trouble> {
     let message = message_of(alloc, &served.reply)?;
-    if served.next.is_some() {
+    if is_alone || served.next.is_some() {
         return send_at_once(client, sender, message);
     }
     answer_and_wait(alloc, client, sender, message)

@@ -1,6 +1,6 @@
-//! A server pauses once in many answers, before it waits again. Two servers that answer each other's
-//! answers, as after a message to one in the name of the other, stop then: an answer has zero time,
-//! and finds nobody who waits for it. A client only waits.
+//! A server pauses once in many answers, before it waits again. Two servers that answer each
+//! other's answers, as after a message to one in the name of the other, stop then: an answer has
+//! zero time, and finds nobody who waits for it. A client only waits.
 use std::rt::Clock;
 use std::thread;
 use std::time::Duration;

@@ -532,6 +532,14 @@ def check_driver(programs, l4d, room):
         wait_until_waiting(sayer, thread_id(17, 15), 0x2)
         device.write("ee\n")
         wanted(waiting, "three\n")
+        # somebody cancels the watcher's wait for a reader; the line stays, and comes once
+        device.write("four\nfive\n")
+        wait_until_waiting(sayer, thread_id(16), 0x2)
+        for _ in range(2):
+            assert sayer.exreg(thread_id(16), 0x2)[0] == thread_id(16)
+            wait_until_waiting(sayer, thread_id(16), 0x2)
+        wanted(reader(), "four\n")
+        wanted(reader(), "five\n")
         sayer.end()
         server.process.kill()
         _, errors = driver.communicate(timeout=SECONDS)

@@ -107,6 +107,30 @@ static bool wait_for_device(FILE *device)
 	return ready[1].revents == 0;
 }
 
+/* Whether a thread of the space cancelled a phase of the last call, or aborted its transfer. */
+static bool is_cancelled(void)
+{
+	L4_Word_t error = L4_ErrorCode() >> 1 & 7;
+
+	return error == 3 || error == 7;
+}
+
+/* Has the driver hand out a line. Over when a reader has it, whoever cancels a phase meanwhile. False where that fails. */
+static bool is_handed_out(const struct driver *driver, const L4_Msg_t *msg)
+{
+	bool is_delivered = false;
+
+	for (;;) {
+		L4_MsgLoad(msg);
+		if (L4_IpcSucceeded(is_delivered ? L4_Receive(driver->thread) : L4_Call(driver->thread)))
+			return true;
+		if (!is_cancelled())
+			return false;
+		/* of a receive phase that failed the line was delivered */
+		is_delivered = L4_ErrorCode() & 1;
+	}
+}
+
 /* The thread that waits for the device, and for the end of l4d. */
 static void *watch(void *data)
 {
@@ -122,9 +146,7 @@ static void *watch(void *data)
 		L4_MsgClear(&msg);
 		L4_Set_MsgLabel(&msg, LINE);
 		L4_MsgAppendSimpleStringItem(&msg, L4_StringItem((int) strcspn(line, "\n"), line));
-		L4_MsgLoad(&msg);
-		/* over when a reader has the line */
-		if (L4_IpcFailed(L4_Call(driver->thread)))
+		if (!is_handed_out(driver, &msg))
 			break;
 	}
 	/* a call tells whether the connection is there still */

@@ -49,7 +49,8 @@ static L4_Bool_t pass(L4_ThreadId_t from, L4_MsgTag_t tag, void *data)
 	L4_Set_Propagation(&tag);
 	L4_Set_MsgTag(tag);
 	L4_Set_VirtualSender(from);
-	if (L4_IpcSucceeded(L4_Send(*answerer)))
+	/* an answerer that is stopped holds nobody up for more than a second */
+	if (L4_IpcSucceeded(L4_Send_Timeout(*answerer, L4_TimePeriod(1000000))))
 		return false;
 	fprintf(stderr, "pass: %s\n", l4_error());
 	return deny();

@@ -15,10 +15,11 @@ NO_SERVER = 1
 
 def serve(directory):
     with Thread(directory, 40) as thread:
-        names = Names(thread)
+        names = Names(thread, timeout=1)
         names.register("gateway")
 
         def pass_on(request):
+            # a name server that is stopped, or a server that is busy, holds nobody up for more than a second
             server = names.lookup("pingpong")
             if server is None:
                 return Message(NO_SERVER)

@@ -111,7 +111,7 @@ fn put_send(ink: &mut Ink, row: &Row, call: &ToldCall) {
 fn put_dropped(ink: &mut Ink, call: &ToldCall) {
     ink.put(" (p dropped: ");
     ink.id(call.originator);
-    ink.put(" is not in its space)");
+    ink.put(" is not live in its space)");
 }
 
 fn put_receive(ink: &mut Ink, call: &ToldCall) {

@@ -72,7 +72,7 @@ fn tell_shown(text: &mut String, call: &Note) -> Result<(), AllocError> {
     if call.dropped != ThreadId::NILTHREAD {
         write!(
             text,
-            " (p dropped: {} is not in its space)",
+            " (p dropped: {} is not live in its space)",
             IdText(call.dropped)
         )?;
     }

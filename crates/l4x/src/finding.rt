@@ -11,6 +11,13 @@ use std::alloc::Global;
 /// Up to which version a thread is looked for.
 pub const MAX_VERSION: u32 = 63;
 
+/// How long a name server has for each phase of a look up, in microseconds: one that is stopped
+/// holds nobody up for ever.
+const LOOK_UP_TIME: u64 = 2_000_000;
+
+/// The ErrorCodes of a send phase and of a receive phase that took longer than their timeouts.
+const TOOK_LONGER: [u64; 2] = [0x2, 0x3];
+
 /// The live thread of a number, if its version is 1 to 63.
 pub fn live_thread<I: PortRead, O: PortWrite>(
     alloc: Global,
@@ -56,11 +63,11 @@ pub fn look_up<I: PortRead, O: PortWrite>(
     client: &mut Client<I, O>,
     name: &str,
 ) -> Result<Option<ThreadId>, Trouble> {
-    let thread = ask(alloc, client, LOOK_UP, name, Timeout::never())?;
-    if thread == ThreadId::NILTHREAD {
-        Ok(None)
-    } else {
-        Ok(Some(thread))
+    match ask(alloc, client, LOOK_UP, name, Timeout::micros(LOOK_UP_TIME)) {
+        Ok(ThreadId::NILTHREAD) => Ok(None),
+        Ok(thread) => Ok(Some(thread)),
+        Err(Trouble::Failed(code)) if TOOK_LONGER.contains(&code) => Err(Trouble::SilentNames),
+        Err(trouble) => Err(trouble),
     }
 }
 

@@ -70,6 +70,8 @@ pub enum Trouble {
     Failed(u64),
     /// There is no name server.
     NoNames,
+    /// The name server does not answer.
+    SilentNames,
     /// There is no such server: it was looked for in this way.
     NoThread(Server, Search),
     /// Nobody has the name that was looked for.
@@ -93,6 +95,7 @@ impl Trouble {
             Trouble::TooLong => "the path is too long: that of a socket has at most 107 bytes",
             Trouble::LongMessage => "the message is past its limits",
             Trouble::NoNames => "there is no name server: start l4x DIR names",
+            Trouble::SilentNames => "the name server does not answer",
             Trouble::NotPassed =>
                 "the gateway found no server: start l4x DIR keyvalue, with --names if the gateway has it",
             _ => "nobody has that name",
@@ -103,7 +106,7 @@ impl Trouble {
     pub fn passes(self) -> bool {
         matches!(
             self,
-            Trouble::NoNames | Trouble::Name(_) | Trouble::Failed(_)
+            Trouble::NoNames | Trouble::SilentNames | Trouble::Name(_) | Trouble::Failed(_)
         )
     }
 

@@ -15,6 +15,10 @@ use std::sync::Wait;
 /// The label of the answer to a request that no server took.
 pub const NO_SERVER: u64 = 5;
 
+/// How long a server has to take a request, in microseconds: one that is stopped holds up nobody
+/// who asks for another one.
+const PASS_TIME: u64 = 1_000_000;
+
 /// Passes requests on for ever.
 ///
 /// The message that goes on has the flag p and shows who asked as its VirtualSender. Who asked
@@ -102,7 +106,8 @@ fn pass<I: PortRead, O: PortWrite>(
 ) -> Result<bool, Trouble> {
     match thread_of(alloc, client, Server::KeyValue, search) {
         Ok(server) => {
-            let sent = message_of(client.send(server, message, Timeout::never())?)?;
+            let wait = Timeout::micros(PASS_TIME);
+            let sent = message_of(client.send(server, message, wait)?)?;
             Ok(sent.is_ok())
         }
         Err(trouble) => {

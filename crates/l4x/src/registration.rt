@@ -30,8 +30,8 @@ pub struct Registration {
 }
 
 impl Registration {
-    /// Registers a server, where servers are looked for by names. Where `l4d` has no room for that
-    /// it is tried again later.
+    /// Registers a server, where servers are looked for by names. Where `l4d` has no room for that,
+    /// or the name server does not answer, it is tried again later.
     pub fn new<I: PortRead, O: PortWrite, R: Clock + Eprint>(
         rt: &R,
         alloc: Global,
@@ -41,7 +41,10 @@ impl Registration {
     ) -> Result<Registration, Trouble> {
         let registered = match search {
             Search::Number => Ok(()),
-            Search::Name => register(alloc, client, server.name(), Timeout::never()),
+            Search::Name => {
+                let wait = Timeout::micros(ANSWER_TIME);
+                register(alloc, client, server.name(), wait)
+            }
         };
         let mut registration = Registration {
             server,
@@ -50,7 +53,9 @@ impl Registration {
             is_told: false,
         };
         match registered {
-            Err(trouble) if trouble.lacks_room() => registration.tell(rt, trouble),
+            Err(trouble) if trouble.lacks_room() || matches!(&trouble, Trouble::Failed(_)) => {
+                registration.tell(rt, trouble)
+            }
             other => other?,
         }
         Ok(registration)

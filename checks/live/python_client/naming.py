@@ -75,8 +75,10 @@ def propagated_names(server):
         asked = names.Names(gate)
         same("no such name", asked.lookup("other"), None)
         # the server answers whom it registers, so that the gate gets no answer; it looks the name up afterwards
-        gate.send(asked.server, Message(1, [], [b"other"], originator=other.id))
-        same("a thread of the own space is registered", asked.lookup("other"), other.id)
+        same("a thread of the own space is registered", names.Names(gate, timeout=5).register("other", originator=other.id), other.id)
+        same("and has its name", asked.lookup("other"), other.id)
+        told("a name that another one has", lambda: names.Names(gate, timeout=5).register("other", originator=ThreadId.of(999, 1)), l4ipc.NameFault, number=3,
+             holder=other.id)
         same("a thread of another space is not", asked.register("stranger", originator=stranger.id), gate.id)
         same("its own", names.Names(stranger).register("own"), stranger.id)
         same("names over spaces", asked.lookup("own"), stranger.id)

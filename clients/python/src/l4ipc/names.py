@@ -188,14 +188,22 @@ class Book:
             longest = half if longest is None else min(half, longest)
         return timeouts(longest, longest)
 
-    def ask(
-        self, label: int, name: bytes, originator: Optional[int] = None, end: Optional[float] = None, is_wait: bool = False
-    ) -> Steps[Received]:
-        """A request, of a wait until this moment. The name server is looked for where it is not known, and again where it has ended, unless it was chosen.
+    def ask(self, label: int, name: bytes, end: Optional[float] = None, is_wait: bool = False) -> Steps[Received]:
+        """What the name server answers to a request, of a wait until this moment."""
+        answer = yield from self.tell(Message(label, strings=[name]), end, is_wait, True)
+        if answer is None or len(answer.words) != 1 and not answer.label:
+            raise L4Error(f"{self.server} is no name server")
+        if answer.label:
+            raise NameFault(answer.label, ThreadId(answer.words[0] if answer.words else 0), name.decode("utf-8"))
+        return answer
+
+    def tell(self, message: Message, end: Optional[float], is_wait: bool, is_call: bool) -> Steps[Optional[Received]]:
+        """Sends a request, and waits for its answer where it is a call. The name server is looked for where it is not known, and again where it has ended,
+        unless it was chosen.
 
         It is looked for from the first version on where the connection had ended: then the request is sent over the next one.
         """
-        message = Message(label, strings=[name], originator=originator)
+        label = message.label
         buffers: List[Buffer] = [MAX_NAME_BYTES] if label == LIST else []
         first, has_ended = 1, False
         while True:
@@ -203,8 +211,8 @@ class Book:
             try:
                 if not server:
                     server = self._found = yield from self._live_server(first)
-                answer: Received = yield Ipc(server, server, message, self._times(end, is_wait), buffers, True)
-                break
+                answer: Optional[Received] = yield Ipc(server, server if is_call else NILTHREAD, message, self._times(end, is_wait), buffers, True)
+                return answer
             except NoPartner:
                 if server == self._thread.kept.chosen:
                     raise NoNames(server) from None
@@ -216,11 +224,6 @@ class Book:
                     raise Closed(str(error)) from None
                 first, has_ended = 1, True
                 yield Ready()
-        if answer.label:
-            raise NameFault(answer.label, ThreadId(answer.words[0] if answer.words else 0), name.decode("utf-8"))
-        if len(answer.words) != 1:
-            raise L4Error(f"{server} is no name server")
-        return answer
 
     def _live_server(self, first: int) -> Steps[ThreadId]:
         """The name server that is there, from this version on."""
@@ -233,17 +236,26 @@ class Book:
         self, name: str, originator: Optional[int] = None, end: Optional[float] = None, is_wait: bool = False
     ) -> Steps[ThreadId]:
         """`Names.register`, of a wait until this moment."""
-        if originator is not None:
-            arguments.thread_or_nobody("originator", originator)
-        answer = yield from self.ask(REGISTER, name_bytes(name), originator, end, is_wait)
-        registered = ThreadId(answer.words[0])
+        if originator is None or arguments.thread_or_nobody("originator", originator) == self._thread.id:
+            answer = yield from self.ask(REGISTER, name_bytes(name), end, is_wait)
+            registered = ThreadId(answer.words[0])
+        else:
+            registered = yield from self._register_other(name, originator, end, is_wait)
         if registered == self._thread.id:
             self._thread.kept.registered(name)
         return registered
 
+    def _register_other(self, name: str, originator: int, end: Optional[float], is_wait: bool) -> Steps[ThreadId]:
+        """Which thread has a name once it was registered as that of another one. The name server answers whom it registers, so no answer comes here."""
+        yield from self.tell(Message(REGISTER, strings=[name_bytes(name)], originator=originator), end, is_wait, False)
+        found = yield from self.lookup(name, end, is_wait)
+        if found is None or found not in (originator, self._thread.id):
+            raise NameFault(NameFault.TAKEN, found or NILTHREAD, name)
+        return found
+
     def lookup(self, name: str, end: Optional[float] = None, is_wait: bool = False) -> Steps[Optional[ThreadId]]:
         """`Names.lookup`, of a wait until this moment."""
-        answer = yield from self.ask(LOOK_UP, name_bytes(name), end=end, is_wait=is_wait)
+        answer = yield from self.ask(LOOK_UP, name_bytes(name), end, is_wait)
         found = ThreadId(answer.words[0])
         return None if found == NILTHREAD else found
 
@@ -432,8 +444,9 @@ class Names:
     def register(self, name: str, originator: Optional[int] = None) -> ThreadId:
         """From now on the name is that of this thread; with an originator, of that thread of the own space.
 
-        It answers the thread that is registered, which is this one where the propagation was not permitted. An own name is kept: `serve`
-        registers it again every few seconds, and a thread that connects again does so, too.
+        It answers the thread that is registered, which is this one where the propagation was not permitted. The name server answers whom it registers:
+        an originator that waits for this thread, or for anybody, gets its word. An own name is kept: `serve` registers it again every few seconds,
+        and a thread that connects again does so, too.
         """
         return self._thread.run(self._book.register(name, originator))
 

@@ -418,7 +418,10 @@ def is_live(thread: "Thread", other: int) -> bool:
 
 
 def live_thread(thread: "Thread", number: int, first: int = 1) -> Optional[ThreadId]:
-    """The live thread of a number, if its version is ``first`` to 63. Each version costs one call."""
+    """The live thread of a number, if its version is ``first`` to 63. Each version costs one call.
+
+    A message that it is just sending to this thread is received and lost, as by `is_live`: so a server looks for its partners by names.
+    """
     return thread.run(live_version(number, first))
 
 

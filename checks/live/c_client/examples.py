@@ -532,11 +532,13 @@ def check_driver(programs, l4d, room):
         wait_until_waiting(sayer, thread_id(17, 15), 0x2)
         device.write("ee\n")
         wanted(waiting, "three\n")
-        # somebody cancels the watcher's wait for a reader; the line stays, and comes once
+        # somebody disturbs the watcher's wait for a reader; the line stays, and comes once
         device.write("four\nfive\n")
         wait_until_waiting(sayer, thread_id(16), 0x2)
         for _ in range(2):
             assert sayer.exreg(thread_id(16), 0x2)[0] == thread_id(16)
+            wait_until_waiting(sayer, thread_id(16), 0x2)
+            assert sayer.code(to=thread_id(16), virtual=thread_id(15), strings=[[b"x"]]) == 0x8
             wait_until_waiting(sayer, thread_id(16), 0x2)
         wanted(reader(), "four\n")
         wanted(reader(), "five\n")

@@ -107,15 +107,16 @@ static bool wait_for_device(FILE *device)
 	return ready[1].revents == 0;
 }
 
-/* Whether a thread of the space cancelled a phase of the last call, or aborted its transfer. */
-static bool is_cancelled(void)
+/* Whether a thread of the space disturbed the last call: cancelled a phase, aborted its transfer, or sent strings in the name of
+ * the driver. */
+static bool is_disturbed(void)
 {
 	L4_Word_t error = L4_ErrorCode() >> 1 & 7;
 
-	return error == 3 || error == 7;
+	return error == 3 || error == 4 || error == 7;
 }
 
-/* Has the driver hand out a line. Over when a reader has it, whoever cancels a phase meanwhile. False where that fails. */
+/* Has the driver hand out a line. Over when a reader has it, whoever disturbs that. False where it fails. */
 static bool is_handed_out(const struct driver *driver, const L4_Msg_t *msg)
 {
 	bool is_delivered = false;
@@ -124,7 +125,7 @@ static bool is_handed_out(const struct driver *driver, const L4_Msg_t *msg)
 		L4_MsgLoad(msg);
 		if (L4_IpcSucceeded(is_delivered ? L4_Receive(driver->thread) : L4_Call(driver->thread)))
 			return true;
-		if (!is_cancelled())
+		if (!is_disturbed())
 			return false;
 		/* of a receive phase that failed the line was delivered */
 		is_delivered = L4_ErrorCode() & 1;
@@ -147,7 +148,7 @@ static void *watch(void *data)
 		L4_Set_MsgLabel(&msg, LINE);
 		L4_MsgAppendSimpleStringItem(&msg, L4_StringItem((int) strcspn(line, "\n"), line));
 		if (!is_handed_out(driver, &msg))
-			break;
+			fail("watch");
 	}
 	/* a call tells whether the connection is there still */
 	L4_Sleep(L4_ZeroTime);

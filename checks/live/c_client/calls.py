@@ -279,7 +279,7 @@ def check_aborts(one, two, three):
     longest = bytes(MAX_STRING_BYTES)
     while not {0xE, 0xF} <= seen:
         tries += 1
-        assert tries < 300, "no transfer was aborted"
+        assert tries < 3_000, "no transfer was aborted"
         one.tell_ipc(source=ANY, buffers=[[MAX_STRING_BYTES]])
         wait_until_waiting(three, one.thread, 0x2)
         two.tell_ipc(to=one.thread, strings=[[longest]])

@@ -80,8 +80,8 @@ def check_full_device(l4x):
         tally.same("its help into a full device", (ran.returncode, ran.stderr), (1, told))
 
 
-# A server's receive that takes names, a closed one with zero time, and the timeouts of a send with zero time.
-BUFFER, NO_TIME, AT_ONCE, KEPT_FOR = (MAX_NAME_BYTES << 10, 0), 0x400, 0x400 << 16, 0x3663
+# A server's receive that takes names, a closed one with zero time, and the timeouts of sends with zero time and with a second.
+BUFFER, NO_TIME, AT_ONCE, A_SECOND, KEPT_FOR = (MAX_NAME_BYTES << 10, 0), 0x400, 0x400 << 16, 0x2BD1 << 16, 0x3663
 LIVE = ipcr(error=0x3)
 NO_ROOM, NO_MEMORY, TAKEN = refused(K_HISTORY_FULL), refused(K_NO_MEMORY), refused(K_NUMBER_TAKEN)
 ONE, TWO, EIGHT, NINE = (thread_id(number) for number in (1, 2, 8, 9))
@@ -103,7 +103,7 @@ def told_thread(to, thread):
 
 RECEIVES, RECEIVES_NAMES = ipc(NIL, ANY), ipc(NIL, ANY, buffers=BUFFER)
 FOUND = ipc(NINE, ANY, (70,), AT_ONCE, tag=3 << 16 | 1)
-PASSED = ipc(ONE, NIL, (7, 0), sender=NINE, tag=2 << 16 | 0x1000 | 2)
+PASSED = ipc(ONE, NIL, (7, 0), A_SECOND, sender=NINE, tag=2 << 16 | 0x1000 | 2)
 LISTED = ipc(NINE, ANY, (NINE, 4 << 10, 0), AT_ONCE, tag=2 << 6 | 1, buffers=BUFFER, payload=b"echo")
 TRIES_AGAIN, NOT_REGISTERED = "l4d has no room (K{}); trying again", "the name {} could not be registered again, and is tried again: refused: K5: the history has no room for what the command may bring about"
 

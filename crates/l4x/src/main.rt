@@ -17,13 +17,13 @@ mod pace;
 mod registration;
 mod role;
 mod room;
+mod saying;
 mod sleeper;
 mod standing;
 mod table;
 mod trouble;
 
 use calling::{Search, Server};
-use finding::MAX_VERSION;
 use ipc_base::{Failures, Past, PortRead, PortWrite, ReadPort, WritePort};
 use ipc_client::{Client, FIRST_WAIT, PATIENCE, PatientStream, Waiter, await_end};
 use ipc_host::{
@@ -34,6 +34,7 @@ use l4sh_options::tell_version_of;
 use mistake::Mistake;
 use registration::Registration;
 use role::{Role, Task};
+use saying::{say_names, say_thread, say_word, tell_hidden};
 use std::alloc::Global;
 use std::io::{self, ErrorKind};
 use std::marker::Brand;
@@ -347,44 +348,6 @@ fn serve_names<I: PortRead, O: PortWrite, R: Wait + Clock + Print + Eprint>(
     say_names(rt, own)?;
     tell_hidden(rt, own);
     names::serve(rt, alloc, client)
-}
-
-/// Says where clients do not find a name server of this id by themselves.
-fn tell_hidden<R: Eprint>(rt: &R, own: ThreadId) {
-    if own.version() > MAX_VERSION {
-        // where standard error fails nothing is told
-        let _ = eprintln!(rt;
-            "l4x: clients find a name server of a version up to {MAX_VERSION} by themselves: give them this id, or start l4d anew"
-        );
-    }
-}
-
-/// Prints a word, or `nothing`.
-fn say_word<R: Print>(rt: &R, word: Option<u64>) -> Result<(), Trouble> {
-    let said = match word {
-        Some(word) => println!(rt; "{word}"),
-        None => println!(rt; "nothing"),
-    };
-    said.map_err(|error| Trouble::NoOutput(error))
-}
-
-/// Prints a thread; without one `nothing`, and that is why the role ends.
-fn say_thread<R: Print>(rt: &R, thread: Option<ThreadId>) -> Result<(), Trouble> {
-    let said = match thread {
-        Some(thread) => println!(rt; "{}.{}", thread.number(), thread.version()),
-        None => println!(rt; "nothing"),
-    };
-    match (said, thread) {
-        (Err(error), _) => Err(Trouble::NoOutput(error)),
-        (Ok(()), Some(_)) => Ok(()),
-        (Ok(()), None) => Err(Trouble::Nobody),
-    }
-}
-
-/// Prints which thread the name server is.
-fn say_names<R: Print>(rt: &R, own: ThreadId) -> Result<(), Trouble> {
-    let said = println!(rt; "names {}.{}", own.number(), own.version());
-    said.map_err(|error| Trouble::NoOutput(error))
 }
 
 /// Says on standard error why a role ended, by the words that asked for it: with what is wanted of
